@@ -1,0 +1,5 @@
+pub mod Stood
+pub mod Openings
+pub mod PatternEnds
+pub mod TableEnds
+pub mod TypeReads

@@ -1,0 +1,4 @@
+use Rattle.rows.proofs.patterns.+pattern_end.Given as given
+
+abbrev pub μ-pattern-end : given.MeasureT-pattern-end
+μ-pattern-end l = l .deep

@@ -1,0 +1,5 @@
+-- What the readers of rows promise.
+pub mod Standing
+pub mod Numbered
+pub mod Stepwise
+pub mod Tables
