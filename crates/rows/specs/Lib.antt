@@ -3,3 +3,4 @@ pub mod Standing
 pub mod Numbered
 pub mod Stepwise
 pub mod Tables
+pub mod Jobs

@@ -1,4 +1,5 @@
 // Readers of rows: words that are lent, and what is known of them.
+pub mod jobs;
 pub mod numbered;
 pub mod patterns;
 pub mod steps;
