@@ -51,11 +51,11 @@ from-before (node a l r) (node b k s) h =
       | inr p ↦ elim (p .1) [
         | inl u ↦ by-mark (omega (arith, p .0)) u
         | inr q ↦ subst (λ (c : ℕ). Less (node a l r) (node c k s)) (q .0)
-          (elim (q .1) [
-            | inl u ↦ by-left (omega (arith, p .0)) (from-before l k u)
-            | inr w ↦ subst (λ (t : Tree). Less (node a l r) (node a t s)) (w .0)
-              (by-right (omega (arith, p .0, ap size (w .0))) (from-before r s (w .1)))
-          ])
+            (elim (q .1) [
+              | inl u ↦ by-left (omega (arith, p .0)) (from-before l k u)
+              | inr w ↦ subst (λ (t : Tree). Less (node a l r) (node a t s)) (w .0)
+                  (by-right (omega (arith, p .0, ap size (w .0))) (from-before r s (w .1)))
+            ])
       ]
     ]
 
@@ -103,7 +103,7 @@ before-total (node a l r) (node b k s) =
     (λ _. lex-total (number-total a b) sym (λ e. lex-total (before-total l k) sym (λ f. equal-then (node-equal e f) (before-total r s))))
 
 lex-transitive : {P E Q P′ E′ Q′ P″ E″ Q″ : Type 0}
-  → (P → P′ → P″) → (P → E′ → P″) → (E → P′ → P″) → (E → E′ → E″) → (Q → Q′ → Q″) → Lex P E Q → Lex P′ E′ Q′ → Lex P″ E″ Q″
+    → (P → P′ → P″) → (P → E′ → P″) → (E → P′ → P″) → (E → E′ → E″) → (Q → Q′ → Q″) → Lex P E Q → Lex P′ E′ Q′ → Lex P″ E″ Q″
 lex-transitive f g h e q (inl u) (inl v) = inl (f u v)
 lex-transitive f g h e q (inl u) (inr v) = inl (g u (v .0))
 lex-transitive f g h e q (inr u) (inl v) = inl (h (u .0) v)

@@ -59,7 +59,7 @@ patterns-apart (p-part q s) (p-part p t) us vs e =
 
 -- as many things, written one behind the other
 pub joined-apart : {A : Type 0} (row : A → List ℕ) → ((x y : A) (us vs : List ℕ) → row x ++ us ≡ row y ++ vs → (x ≡ y) × (us ≡ vs))
-  → (xs ys : List A) (us vs : List ℕ) → length xs ≡ length ys → joined row xs ++ us ≡ joined row ys ++ vs → (xs ≡ ys) × (us ≡ vs)
+    → (xs ys : List A) (us vs : List ℕ) → length xs ≡ length ys → joined row xs ++ us ≡ joined row ys ++ vs → (xs ≡ ys) × (us ≡ vs)
 joined-apart row apart [] [] us vs n e = (refl, e)
 joined-apart row apart [] (y ∷ ys) us vs n e = absurd (omega arith)
 joined-apart row apart (x ∷ xs) [] us vs n e = absurd (omega arith)

@@ -82,7 +82,7 @@ module _ (s : List ℕ) where
           pub some-job : 0 < length s → 1 ≤ m → m ≤ 64 → q .end ≡ length s → PlacesFound s index (Some (record { marks = m; from = p; turn = t; to = q }))
           some-job in-s low high all =
               let st : Stands s 0 (q .end) (m ∷ (type-row (type-in s m p) ++ (turn-row (b .turns) ++ type-row (type-in s m q)))) =
-                  both s (m ∷ []) _ 0 1 (q .end) (one s 0 1 m (omega arith) in-s e) (both s (type-row (type-in s m p)) _ 1 (p .end) (q .end) (a .1) (both s (turn-row (b .turns)) (type-row (type-in s m q)) (p .end) (t .end) (q .end) (b .stands) (c .1))) in
+              both s (m ∷ []) _ 0 1 (q .end) (one s 0 1 m (omega arith) in-s e) (both s (type-row (type-in s m p)) _ 1 (p .end) (q .end) (a .1) (both s (turn-row (b .turns)) (type-row (type-in s m q)) (p .end) (t .end) (q .end) (b .stands) (c .1))) in
               let o = b .ok in
               record {
                 turns = b .turns;

@@ -6,3 +6,4 @@ pub mod TypeReads
 pub mod PatternLists
 pub mod TurnReads
 pub mod JobReads
+pub mod SubtreeReads

@@ -101,7 +101,7 @@ module _ (s : List ℕ) (at deep : ℕ) (b : Bounds) where
   none-first a st no-first (p-part q d) rest ok e = let e′ = sym (st .words) ∙ e in let z : _≡_ {A = ℕ} 1 2 = cc in omega arith
 
   pub none-second : (a mid : ℕ) → Stands s at (at + 2) (step-row (Node a)) → Ends pattern-row (PatternOk (deep - 1) b) s (at + 2) (Some mid)
-    → Absent pattern-row (PatternOk (deep - 1) b) s mid → Absent pattern-row (PatternOk deep b) s at
+      → Absent pattern-row (PatternOk (deep - 1) b) s mid → Absent pattern-row (PatternOk deep b) s at
   none-second a mid st r no-second (p-leaf c) rest ok e = let e′ = sym (st .words) ∙ e in let z : _≡_ {A = ℕ} 0 1 = cc in omega arith
   none-second a mid st r no-second (p-node c x y) rest ok e =
       let i = inner a c x y rest st ok e in
@@ -110,8 +110,8 @@ module _ (s : List ℕ) (at deep : ℕ) (b : Bounds) where
   none-second a mid st r no-second (p-part q d) rest ok e = let e′ = sym (st .words) ∙ e in let z : _≡_ {A = ℕ} 1 2 = cc in omega arith
 
   pub some-node : (a mid end : ℕ) → Stands s at (at + 2) (step-row (Node a)) → 1 ≤ deep → a < b .marks
-    → Ends pattern-row (PatternOk (deep - 1) b) s (at + 2) (Some mid) → Ends pattern-row (PatternOk (deep - 1) b) s mid (Some end)
-    → Ends pattern-row (PatternOk deep b) s at (Some end)
+      → Ends pattern-row (PatternOk (deep - 1) b) s (at + 2) (Some mid) → Ends pattern-row (PatternOk (deep - 1) b) s mid (Some end)
+      → Ends pattern-row (PatternOk deep b) s at (Some end)
   some-node a mid end st d h r q =
       let x = r .0 in
       let y = q .0 in

@@ -27,12 +27,12 @@ joined-append row (x ∷ xs) ys = ap (λ (l : List ℕ). row x ++ l) (joined-app
 
 -- the patterns behind the first i of those that stand at a place
 pub behind : (s : List ℕ) (at here : ℕ) (xs ps : List Pattern) (rest : List ℕ) → Stands s at here (patterns-row xs) → length xs ≤ length ps
-  → drop at s ≡ patterns-row ps ++ rest → drop here s ≡ patterns-row (drop (length xs) ps) ++ rest
+    → drop at s ≡ patterns-row ps ++ rest → drop here s ≡ patterns-row (drop (length xs) ps) ++ rest
 behind s at here xs ps rest st l e =
     let n = length xs in
     let parts : patterns-row ps ≡ patterns-row (take n ps) ++ patterns-row (drop n ps) = ap patterns-row (sym (take-append-drop n ps)) ∙ joined-append pattern-row (take n ps) (drop n ps) in
     let e′ : patterns-row xs ++ drop here s ≡ patterns-row (take n ps) ++ (patterns-row (drop n ps) ++ rest) =
-        sym (st .words) ∙ e ∙ ap (λ (l : List ℕ). l ++ rest) parts ∙ append-assoc (patterns-row (take n ps)) (patterns-row (drop n ps)) rest in
+    sym (st .words) ∙ e ∙ ap (λ (l : List ℕ). l ++ rest) parts ∙ append-assoc (patterns-row (take n ps)) (patterns-row (drop n ps)) rest in
     joined-apart pattern-row patterns-apart xs (take n ps) (drop here s) (patterns-row (drop n ps) ++ rest) (sym (simp length-take (omega arith))) e′ .1
 
 module _ (s old new : List ℕ) (at here first count i : ℕ) (b : Bounds) (known : PatternsKnown s old new at here first i b) where
@@ -60,15 +60,15 @@ module _ (s old new : List ℕ) (at here first count i : ℕ) (b : Bounds) (know
             (both s (patterns-row xs) (pattern-row p) at here end (known .stands) (r .2));
         indexed = λ k h. elim (cases-eq k i) [
           | inl same ↦
-            let at-end : getD (xs ++ p ∷ []) k (p-leaf 0) ≡ p = getD-push xs p (p-leaf 0) k (omega arith) in
-            let place : number newer (first + k) ≡ here = ap (λ (j : ℕ). number newer (first + j)) same ∙ noted .here in
-            let whole : Begins s here (pattern-row p) = subst (λ (z : ℕ). Stands s here z (pattern-row p)) (r .2 .long) (r .2) in
-            subst (λ (q : Pattern). Begins s (number newer (first + k)) (pattern-row q)) (sym at-end) (subst (λ (z : ℕ). Begins s z (pattern-row p)) (sym place) whole)
+              let at-end : getD (xs ++ p ∷ []) k (p-leaf 0) ≡ p = getD-push xs p (p-leaf 0) k (omega arith) in
+              let place : number newer (first + k) ≡ here = ap (λ (j : ℕ). number newer (first + j)) same ∙ noted .here in
+              let whole : Begins s here (pattern-row p) = subst (λ (z : ℕ). Stands s here z (pattern-row p)) (r .2 .long) (r .2) in
+              subst (λ (q : Pattern). Begins s (number newer (first + k)) (pattern-row q)) (sym at-end) (subst (λ (z : ℕ). Begins s z (pattern-row p)) (sym place) whole)
           | inr other ↦
-            let below : k < length xs = omega (arith, length-push xs p) in
-            let ne : first + k ≡ first + i → ⊥ = λ e. other (omega arith) in
-            subst (λ (q : Pattern). Begins s (number newer (first + k)) (pattern-row q)) (sym (getD-append-left xs (p ∷ []) (p-leaf 0) k below))
-            (subst (λ (z : ℕ). Begins s z (pattern-row (getD xs k (p-leaf 0)))) (sym (noted .others (first + k) ne)) (known .indexed k below))
+              let below : k < length xs = omega (arith, length-push xs p) in
+              let ne : first + k ≡ first + i → ⊥ = λ e. other (omega arith) in
+              subst (λ (q : Pattern). Begins s (number newer (first + k)) (pattern-row q)) (sym (getD-append-left xs (p ∷ []) (p-leaf 0) k below))
+              (subst (λ (z : ℕ). Begins s z (pattern-row (getD xs k (p-leaf 0)))) (sym (noted .others (first + k) ne)) (known .indexed k below))
         ];
         kept = λ k h. let ne : k ≡ first + i → ⊥ = λ e. omega arith in noted .others k ne ∙ known .kept k h;
       }

@@ -19,11 +19,11 @@ pub uncons : (s : List ℕ) (at next w : ℕ) (ws : List ℕ) → next ≡ at + 
 uncons s at next w ws n e =
     elim (cases-lt at (length s)) [
       | inl h ↦
-        let d : getD s at 0 ∷ drop (at + 1) s ≡ w ∷ ws = sym (drop-more s at 0 h) ∙ e in
-        record { within = h; word = head-eq-of-cons-eq d; rest = ap (λ (i : ℕ). drop i s) n ∙ tail-eq-of-cons-eq d }
+          let d : getD s at 0 ∷ drop (at + 1) s ≡ w ∷ ws = sym (drop-more s at 0 h) ∙ e in
+          record { within = h; word = head-eq-of-cons-eq d; rest = ap (λ (i : ℕ). drop i s) n ∙ tail-eq-of-cons-eq d }
       | inr h ↦
-        let d : [] ≡ w ∷ ws = sym (drop-all at s h) ∙ e in
-        let z : 0 ≡ suc (length ws) = ap length d in absurd (omega arith)
+          let d : [] ≡ w ∷ ws = sym (drop-all at s h) ∙ e in
+          let z : 0 ≡ suc (length ws) = ap length d in absurd (omega arith)
     ]
 
 -- a word, and what stands behind it

@@ -76,7 +76,7 @@ table-at s at end count bound r =
 
 -- equal tables in front of equal lists
 pub table-front : (s : List ℕ) (at end count bound : ℕ) (xs rest : List ℕ) → Ends (λ xs. xs) (Table count bound) s at (Some end) → Table count bound xs
-  → drop at s ≡ xs ++ rest → drop end s ≡ rest
+    → drop at s ≡ xs ++ rest → drop end s ≡ rest
 table-front s at end count bound xs rest r ok e = split (r .0) xs (drop end s) rest (r .1 .long ∙ sym (ok .long)) (sym (r .2 .words) ∙ e) .1
 
 -- one word of a slice

@@ -96,14 +96,14 @@ module _ (s : List ℕ) (at m : ℕ) where
           absent (t .on-node) rest (w .nodes) behind
 
       pub some-turn : (new : List ℕ) (z : ℕ) → at < length s → 1 ≤ n → n ≤ 64 → PatternsKnown s mid new p z (n * m) (n * m) (bounds m n true)
-        → TurnRead s new m at (Some (record { states = n; end = z }))
+          → TurnRead s new m at (Some (record { states = n; end = z }))
       some-turn new z in-s low high r =
           let ls = l .patterns in
           let rs = r .patterns in
           let formed : (parts : Bool) (ps : List Pattern) → All (PatternOk 64 (bounds m n parts)) ps → All (WellFormedPattern m n parts) ps =
-              λ parts ps h. all-weaker (PatternOk 64 (bounds m n parts)) (WellFormedPattern m n parts) (λ p o. o .well-formed) ps h in
+          λ parts ps h. all-weaker (PatternOk 64 (bounds m n parts)) (WellFormedPattern m n parts) (λ p o. o .well-formed) ps h in
           let deep : (parts : Bool) (ps : List Pattern) → All (PatternOk 64 (bounds m n parts)) ps → All Shallow ps =
-              λ parts ps h. all-weaker (PatternOk 64 (bounds m n parts)) Shallow (λ p o. o .shallow) ps h in
+          λ parts ps h. all-weaker (PatternOk 64 (bounds m n parts)) Shallow (λ p o. o .shallow) ps h in
           record {
             turns = record { states = n; on-leaf = ls; on-node = rs };
             ok = record {

@@ -71,7 +71,7 @@ module _ (s : List ℕ) (at m : ℕ) where
             absent (t .wanted) rest (record { long = sym (f .word); below = w .wanted .below }) (f .rest)
 
         pub some-type : (z : ℕ) → at < length s → q < length s → 1 ≤ k → k ≤ 64 → m ≤ 64 → Ends (λ xs. xs) (Table (getD s q 0) k) s (q + 1) (Some z)
-          → TypeRead s at m (Some (record { kinds = k; leaves = at + 1; nodes = p; wanted = q + 1; end = z }))
+            → TypeRead s at m (Some (record { kinds = k; leaves = at + 1; nodes = p; wanted = q + 1; end = z }))
         some-type z in-s in-q low high few r =
             let a = table-at s (at + 1) p m k l in
             let b = table-at s p q (m * (k * k)) k n in
@@ -79,8 +79,7 @@ module _ (s : List ℕ) (at m : ℕ) where
             let count : z - (q + 1) ≡ getD s q 0 = omega (arith, c .ends) in
             let as-end : (x : ℕ) (P : ℕ → Type 0) → P (getD s q 0) → P (z - (q + 1)) = λ x P h. subst P (sym count) h in
             let long : length (slice (q + 1) (z - (q + 1)) s) ≡ getD s q 0 = as-end z (λ (x : ℕ). length (slice (q + 1) x s) ≡ getD s q 0) (slice-length s (q + 1) (getD s q 0) (c .within)) in
-            let wanted-stands : Stands s (q + 1) z (slice (q + 1) (z - (q + 1)) s) = as-end z (λ (x : ℕ). Stands s (q + 1) z (slice (q + 1) x s)) (subst (λ (x : ℕ). Stands s (q + 1) x (slice (q + 1) (getD s q 0) s)) (sym (c .ends)) (slice-stands s (q + 1) (getD s q 0) (c .within))) in
-            (
+            let wanted-stands : Stands s (q + 1) z (slice (q + 1) (z - (q + 1)) s) = as-end z (λ (x : ℕ). Stands s (q + 1) z (slice (q + 1) x s)) (subst (λ (x : ℕ). Stands s (q + 1) x (slice (q + 1) (getD s q 0) s)) (sym (c .ends)) (slice-stands s (q + 1) (getD s q 0) (c .within))) in (
               record {
                 few-marks = few;
                 ok = record {
@@ -100,7 +99,7 @@ module _ (s : List ℕ) (at m : ℕ) where
                 wanted-within = omega (arith, c .ends, c .within);
               },
               both s (k ∷ []) _ at (at + 1) z (one s at (at + 1) k refl in-s e)
-              (both s (slice (at + 1) m s) _ (at + 1) p z (subst (λ (x : ℕ). Stands s (at + 1) x (slice (at + 1) m s)) (sym (a .ends)) (slice-stands s (at + 1) m (a .within)))
-              (both s (slice p (m * (k * k)) s) _ p q z (subst (λ (x : ℕ). Stands s p x (slice p (m * (k * k)) s)) (sym (b .ends)) (slice-stands s p (m * (k * k)) (b .within)))
-              (both s (length (slice (q + 1) (z - (q + 1)) s) ∷ []) _ q (q + 1) z (one s q (q + 1) _ refl in-q (sym long)) wanted-stands))),
+                  (both s (slice (at + 1) m s) _ (at + 1) p z (subst (λ (x : ℕ). Stands s (at + 1) x (slice (at + 1) m s)) (sym (a .ends)) (slice-stands s (at + 1) m (a .within)))
+                  (both s (slice p (m * (k * k)) s) _ p q z (subst (λ (x : ℕ). Stands s p x (slice p (m * (k * k)) s)) (sym (b .ends)) (slice-stands s p (m * (k * k)) (b .within)))
+                  (both s (length (slice (q + 1) (z - (q + 1)) s) ∷ []) _ q (q + 1) z (one s q (q + 1) _ refl in-q (sym long)) wanted-stands))),
             )

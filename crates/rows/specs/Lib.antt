@@ -4,3 +4,4 @@ pub mod Numbered
 pub mod Stepwise
 pub mod Tables
 pub mod Jobs
+pub mod Subtrees

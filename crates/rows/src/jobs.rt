@@ -9,6 +9,7 @@ use crate::tables::read_type;
 
 // How many marks a job, and how many states a turn may have.
 pub const MOST_MARKS: u32 = 64;
+
 pub const MOST_STATES: u32 = 64;
 
 // A turn: the number of its states, and where its row ends.
@@ -52,11 +53,19 @@ fn read_turn(words: &[u32], at: usize, marks: u32, index: &mut [u32]) -> Option<
     if words.len() < 4 * count {
         return None;
     }
-    let for_leaves = Bounds { marks, states, parts: false };
+    let for_leaves = Bounds {
+        marks,
+        states,
+        parts: false,
+    };
     let Some(mid) = read_patterns(words, at + 1, for_leaves, index, 0, count) else {
         return None;
     };
-    let for_nodes = Bounds { marks, states, parts: true };
+    let for_nodes = Bounds {
+        marks,
+        states,
+        parts: true,
+    };
     let Some(end) = read_patterns(words, mid, for_nodes, index, count, count) else {
         return None;
     };
@@ -87,7 +96,12 @@ fn find_places(words: &[u32], index: &mut [u32]) -> Option<JobPlaces>
     if to.end != words.len() {
         return None;
     }
-    Some(JobPlaces { marks, from, turn, to })
+    Some(JobPlaces {
+        marks,
+        from,
+        turn,
+        to,
+    })
 }
 
 // Reads a job: known exactly if the words are one. An index as long as the job has room for every job.

@@ -4,3 +4,4 @@ pub mod numbered;
 pub mod patterns;
 pub mod steps;
 pub mod tables;
+pub mod trees;

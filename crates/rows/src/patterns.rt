@@ -31,11 +31,13 @@ pub fn pattern_end(words: &[u32], at: usize, deep: u32, b: Bounds) -> Option<usi
         return None;
     };
     match step {
-        Step::Leaf(a) => {
-            if a < b.marks { Some(at + 2) } else { None }
-        }
+        Step::Leaf(a) => { if a < b.marks { Some(at + 2) } else { None } }
         Step::Made(q, _part) => {
-            if b.parts && q < b.states { Some(at + 3) } else { None }
+            if b.parts && q < b.states {
+                Some(at + 3)
+            } else {
+                None
+            }
         }
         Step::Node(a) => {
             if a >= b.marks {
