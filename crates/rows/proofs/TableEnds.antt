@@ -3,7 +3,7 @@
 use mathlib.Core.Path.{_≡_, refl, sym, _∙_, ap, subst}
 use mathlib.Core.Bool.{Bool, true, false, _||_}
 use mathlib.Core.List.{List, [], _∷_, _++_}
-use Prim.Native.Nat.{ℕ, _+_, _-_, _*_, _≤_, _<_}
+use Prim.Native.Nat.{ℕ, suc, _+_, _-_, _*_, _≤_, _<_}
 use native.Mathlib.Omega.{arith}
 use native.Mathlib.Nat.{mul-assoc, mul-comm}
 use native.Mathlib.Numerals.{add-one}
@@ -81,7 +81,7 @@ table-front s at end count bound xs rest r ok e = split (r .0) xs (drop end s) r
 
 -- one word of a slice
 pub slice-more : (s : List ℕ) (i n : ℕ) → i < length s → slice i (n + 1) s ≡ getD s i 0 ∷ slice (i + 1) n s
-slice-more s i n h = rw (drop-more s i 0 h, add-one) refl
+slice-more s i n h = ap (λ (k : ℕ). slice i k s) (add-one n) ∙ ap (take (suc n)) (drop-more s i 0 h)
 
 -- a word of a slice is below what bounds them all
 pub slice-below : (s : List ℕ) (at n i k : ℕ) → at + n ≤ length s → i < n → Below k (slice at n s) → getD s (at + i) 0 < k
