@@ -34,7 +34,7 @@ trees-apart (node a l r) (node b k s) us vs e =
     let q = trees-apart r s us vs (p .1) in
     (cc (p .0, q .0), q .1)
 
-side-words : (s t : Side) → side-word s ≡ side-word t → s ≡ t
+pub side-words : (s t : Side) → side-word s ≡ side-word t → s ≡ t
 side-words left left e = refl
 side-words left right e = absurd (omega arith)
 side-words right left e = absurd (omega arith)

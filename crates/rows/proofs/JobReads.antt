@@ -92,6 +92,7 @@ module _ (s : List ℕ) where
                   limits = record { few-marks = high; few-from = a .0 .ok .few-kinds; few-states = o .few-states; few-to = c .0 .ok .few-kinds; leaf-depths = o .leaf-depths; node-depths = o .node-depths };
                 };
                 states = b .states;
+                room = b .room;
                 from-known = a .0;
                 to-known = c .0;
                 leaf-places = b .leaf-places;

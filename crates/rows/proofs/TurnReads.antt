@@ -95,9 +95,9 @@ module _ (s : List ℕ) (at m : ℕ) where
           let behind = joined-apart pattern-row patterns-apart (l .patterns) (t .on-leaf) (drop p s) (patterns-row (t .on-node) ++ rest) (l .ok .long ∙ sym (w .leaves .long)) (sym (l .stands .words) ∙ w .words) .1 in
           absent (t .on-node) rest (w .nodes) behind
 
-      pub some-turn : (new : List ℕ) (z : ℕ) → at < length s → 1 ≤ n → n ≤ 64 → PatternsKnown s mid new p z (n * m) (n * m) (bounds m n true)
+      pub some-turn : (new : List ℕ) (z : ℕ) → at < length s → 1 ≤ n → n ≤ 64 → 4 * (n * m) ≤ length new → PatternsKnown s mid new p z (n * m) (n * m) (bounds m n true)
           → TurnRead s new m at (Some (record { states = n; end = z }))
-      some-turn new z in-s low high r =
+      some-turn new z in-s low high room r =
           let ls = l .patterns in
           let rs = r .patterns in
           let formed : (parts : Bool) (ps : List Pattern) → All (PatternOk 64 (bounds m n parts)) ps → All (WellFormedPattern m n parts) ps =
@@ -119,6 +119,7 @@ module _ (s : List ℕ) (at m : ℕ) where
               node-depths = deep true rs (r .ok .each);
             };
             states = refl;
+            room = room;
             stands = both s (n ∷ []) (patterns-row ls ++ patterns-row rs) at (at + 1) z (one s at (at + 1) n refl in-s e) (both s (patterns-row ls) (patterns-row rs) (at + 1) p z (l .stands) (r .stands));
             leaf-places = λ i h.
                 let below : 0 + i < n * m = omega (arith, l .ok .long) in

@@ -58,6 +58,7 @@ pub record TurnKnown (s index : List ℕ) (m at : ℕ) (p : TurnPlaces) : Type 0
   pub turns : Turn
   pub ok : TurnOk m turns
   pub states : turns .states ≡ p .states
+  pub room : 4 * (p .states * m) ≤ length index
   pub stands : Stands s at (p .end) (turn-row turns)
   pub leaf-places : Indexed s index 0 (turns .on-leaf)
   pub node-places : Indexed s index (p .states * m) (turns .on-node)
@@ -75,6 +76,7 @@ pub record JobKnown (s index : List ℕ) (p : JobPlaces) : Type 0 where
   pub turns : Turn
   pub rows : Rows s (job-in s p turns)
   pub states : turns .states ≡ p .turn .states
+  pub room : 4 * (p .turn .states * p .marks) ≤ length index
   pub from-known : TypeKnown s (p .marks) (p .from)
   pub to-known : TypeKnown s (p .marks) (p .to)
   pub leaf-places : Indexed s index 0 (turns .on-leaf)

@@ -4,12 +4,10 @@ use mathlib.Core.Bool.{Bool}
 use mathlib.Core.List.{List, [], _∷_}
 use Prim.Native.Nat.{ℕ, _+_, _*_, _≤_}
 use lib.ListN.{length}
-use Rattle.std.specs.shelf.Lists.{All}
 use Rattle.std.specs.declared.option.Option.{Option}
 use Rattle.std.specs.declared.option.Option.the-variants.{Some, None}
-use Rattle.model.specs.Trees.{Tree}
-use Rattle.model.specs.Turns.{Pattern, depth, WellFormedPattern}
-use Rattle.model.specs.Rows.{tree-row, pattern-row, patterns-row}
+use Rattle.model.specs.Turns.{Side, left, right, Pattern, depth, WellFormedPattern}
+use Rattle.model.specs.Rows.{side-word, pattern-row}
 use Rattle.rows.specs.declared.steps.Part.{Part}
 use Rattle.rows.specs.declared.steps.Part.the-variants.{Left, Right}
 use Rattle.rows.specs.declared.steps.Step.{Step}
@@ -17,15 +15,15 @@ use Rattle.rows.specs.declared.steps.Step.the-variants.{Leaf, Node, Made}
 use Rattle.rows.specs.declared.patterns.Bounds.{Bounds}
 use Rattle.rows.specs.Standing.{Stands, Absent}
 
-abbrev pub part-word : Part → ℕ
-part-word Left = 0
-part-word Right = 1
+abbrev pub side-of : Part → Side
+side-of Left = left
+side-of Right = right
 
 -- the words of one step; behind a node's come its two patterns
 abbrev pub step-row : Step → List ℕ
 step-row (Leaf a) = 0 ∷ a ∷ []
 step-row (Node a) = 1 ∷ a ∷ []
-step-row (Made q p) = 2 ∷ q ∷ part-word p ∷ []
+step-row (Made q p) = 2 ∷ q ∷ side-word (side-of p) ∷ []
 
 -- the step that stands at a place, or that no pattern's row begins there
 abbrev pub StepAt : List ℕ → ℕ → Option Step → Type 0

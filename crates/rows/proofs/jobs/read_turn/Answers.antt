@@ -25,4 +25,4 @@ pub returns-in-rest-read-patterns : need.returns-in-rest-read-patterns
 returns-in-rest-read-patterns c = none-nodes (c .args .words .now) (c .args .at) (c .args .marks) _ refl (c .args .index .now) _ (c .in-Some .mid) (c .in-Some .ensures tt) (c .in-rest-read-patterns .ensures tt)
 
 pub returns : need.returns
-returns c = some-turn (c .args .words .now) (c .args .at) (c .args .marks) _ refl (c .args .index .now) _ (c .in-Some .mid) (c .in-Some .ensures tt) _ (c .in-Some-read-patterns .end) (omega arith) (omega arith) (omega arith) (c .in-Some-read-patterns .ensures tt)
+returns c = some-turn (c .args .words .now) (c .args .at) (c .args .marks) _ refl (c .args .index .now) _ (c .in-Some .mid) (c .in-Some .ensures tt) _ (c .in-Some-read-patterns .end) (omega arith) (omega arith) (omega arith) (omega arith) (c .in-Some-read-patterns .ensures tt)

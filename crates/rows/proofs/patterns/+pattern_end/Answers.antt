@@ -1,6 +1,6 @@
 use native.Mathlib.Omega.{arith}
 use mathlib.Core.Logic.{inl, inr}
-use Rattle.rows.proofs.PatternEnds.{as-step, none-deep, none-any, some-leaf, none-leaf, some-made, none-made, none-mark, none-first, none-second, some-node}
+use Rattle.rows.proofs.PatternEnds.{as-step, none-deep, some-leaf, none-leaf, some-made, none-made, none-mark, none-first, none-second, some-node}
 use Rattle.rows.proofs.patterns.+pattern_end.Needs as need
 use Rattle.rows.proofs.patterns.+pattern_end.Needs.{else-b·by·then-b·else-q-b, else-b·by·else-b}
 
@@ -14,7 +14,9 @@ pub returns-in-rest-pattern-end : need.returns-in-rest-pattern-end
 returns-in-rest-pattern-end t c = none-first (c .args .words .now) (c .args .at) (c .args .deep) (c .args .b) (c .in-Node .a) (as-step _ _ _ _ (c .in-Node .is) (c .in-Some .ensures tt)) (c .in-rest-pattern-end .ensures tt)
 
 pub returns-in-rest-pattern-end-2 : need.returns-in-rest-pattern-end-2
-returns-in-rest-pattern-end-2 t c = none-second (c .args .words .now) (c .args .at) (c .args .deep) (c .args .b) (c .in-Node .a) (c .in-Some-pattern-end .mid) (as-step _ _ _ _ (c .in-Node .is) (c .in-Some .ensures tt)) (c .in-Some-pattern-end .ensures tt) (c .in-rest-pattern-end-2 .ensures tt)
+returns-in-rest-pattern-end-2 t c =
+    none-second (c .args .words .now) (c .args .at) (c .args .deep) (c .args .b) (c .in-Node .a) (as-step _ _ _ _ (c .in-Node .is) (c .in-Some .ensures tt))
+    (c .in-Some-pattern-end .mid) (c .in-Some-pattern-end .ensures tt) (c .in-rest-pattern-end-2 .ensures tt)
 
 pub returns-then-a-b : need.returns-then-a-b
 returns-then-a-b t c = some-leaf (c .args .words .now) (c .args .at) (c .args .deep) (c .args .b) (c .in-Leaf .a) (as-step _ _ _ _ (c .in-Leaf .is) (c .in-Some .ensures tt)) (omega arith) (c .if-a-b .taken)
@@ -32,4 +34,5 @@ returns-else-b t c =
 
 pub returns-in-Some-pattern-end-2 : need.returns-in-Some-pattern-end-2
 returns-in-Some-pattern-end-2 t c =
-    some-node (c .args .words .now) (c .args .at) (c .args .deep) (c .args .b) (c .in-Node .a) (c .in-Some-pattern-end .mid) (c .in-Some-pattern-end-2 .end) (as-step _ _ _ _ (c .in-Node .is) (c .in-Some .ensures tt)) (omega arith) (c .if-a-b-2 .left) (c .in-Some-pattern-end .ensures tt) (c .in-Some-pattern-end-2 .ensures tt)
+    some-node (c .args .words .now) (c .args .at) (c .args .deep) (c .args .b) (c .in-Node .a) (as-step _ _ _ _ (c .in-Node .is) (c .in-Some .ensures tt))
+    (c .in-Some-pattern-end .mid) (c .in-Some-pattern-end .ensures tt) (c .in-Some-pattern-end-2 .end) (omega arith) (c .if-a-b-2 .left) (c .in-Some-pattern-end-2 .ensures tt)
