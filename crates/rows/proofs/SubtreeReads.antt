@@ -37,8 +37,22 @@ subtree-below t m s w x = omega (arith, x .of-kind, kind-below m t w (x .tree) (
 pub as-item : (s : List ℕ) (i : ℕ) (x y : Item) → x ≡ y → ItemAt s i (Some x) → ItemAt s i (Some y)
 as-item s i x y e h = subst (λ (z : Item). ItemAt s i (Some z)) e h
 
+-- what the words of a leaf or node tell of the tree that begins with them, before the words `rest`
+abbrev pub ItemTells : List ℕ → ℕ → Item → Tree → List ℕ → Type 0
+ItemTells s i (Leaf a) x rest = x ≡ leaf a
+ItemTells s i (Node a) x rest = (l : Tree) × (r : Tree) × (x ≡ node a l r) × (drop (2 * (i + 1)) s ≡ tree-row l ++ (tree-row r ++ rest))
+
+pub item-tells : (s : List ℕ) (i : ℕ) (y : Item) (x : Tree) (rest : List ℕ) → ItemAt s i (Some y) → drop (2 * i) s ≡ tree-row x ++ rest → ItemTells s i y x rest
+item-tells s i (Leaf a) (leaf b) rest st e = let e′ = sym (st .words) ∙ e in cc
+item-tells s i (Leaf a) (node b l r) rest st e = let e′ = sym (st .words) ∙ e in let z : _≡_ {A = ℕ} 0 1 = cc in absurd (omega arith)
+item-tells s i (Node a) (leaf b) rest st e = let e′ = sym (st .words) ∙ e in let z : _≡_ {A = ℕ} 0 1 = cc in absurd (omega arith)
+item-tells s i (Node a) (node b l r) rest st e =
+    let e′ = sym (st .words) ∙ e in
+    let next : 2 * (i + 1) ≡ 2 * i + 2 = omega arith in
+    (l, r, cc, ap (λ (k : ℕ). drop k s) next ∙ tail-eq-of-cons-eq (tail-eq-of-cons-eq e′) ∙ append-assoc (tree-row l) (tree-row r) rest)
+
 -- how a tree's row begins
-tree-front : (s : List ℕ) (at : ℕ) (x : Tree) (rest : List ℕ) → drop at s ≡ tree-row x ++ rest → (at + 2 ≤ length s) × (getD s at 0 ≤ 1)
+pub tree-front : (s : List ℕ) (at : ℕ) (x : Tree) (rest : List ℕ) → drop at s ≡ tree-row x ++ rest → (at + 2 ≤ length s) × (getD s at 0 ≤ 1)
 tree-front s at (leaf a) rest e =
     let u = uncons s at (at + 1) 0 (a ∷ rest) refl e in
     (ends-within s (0 ∷ a ∷ []) rest at (omega arith) e, omega (arith, u .word))
@@ -80,12 +94,8 @@ subtree-within m (node a p q) us (suc j) h l =
     ]
 
 module _ (t : TreeType) (m : ℕ) (s : List ℕ) (i : ℕ) where
-  pub none-any : Absent tree-row (λ _. Unit {0}) s (2 * i) → Absent tree-row (Marked m) s (2 * i)
-  none-any absent x rest h e = absent x rest tt e
-
   pub none-leaf : (a : ℕ) → ItemAt s i (Some (Leaf a)) → m ≤ a → Absent tree-row (Marked m) s (2 * i)
-  none-leaf a st h (leaf b) rest k e = let e′ = sym (st .words) ∙ e in let same : a ≡ b = cc in omega arith
-  none-leaf a st h (node b l r) rest k e = let e′ = sym (st .words) ∙ e in let z : _≡_ {A = ℕ} 0 1 = cc in omega arith
+  none-leaf a st h x rest k e = let k′ = subst (Marked m) (item-tells s i (Leaf a) x rest st e) k in omega arith
 
   pub some-leaf : (a k : ℕ) → ItemAt s i (Some (Leaf a)) → a < m → k ≡ leaf-kind t a → SubtreeAt t m s i (i + 1) k
   some-leaf a k st h e =
@@ -93,27 +103,18 @@ module _ (t : TreeType) (m : ℕ) (s : List ℕ) (i : ℕ) where
       record { tree = leaf a; marked = h; stands = subst (λ (z : ℕ). Stands s (2 * i) z (0 ∷ a ∷ [])) next st; of-kind = e }
 
   module _ (a : ℕ) (st : ItemAt s i (Some (Node a))) where
-    -- the parts of a node
-    parts : (b : ℕ) (l r : Tree) (rest : List ℕ) → drop (2 * i) s ≡ tree-row (node b l r) ++ rest → (a ≡ b) × (drop (2 * (i + 1)) s ≡ tree-row l ++ (tree-row r ++ rest))
-    parts b l r rest e =
-        let e′ = sym (st .words) ∙ e in
-        let next : 2 * (i + 1) ≡ 2 * i + 2 = omega arith in
-        (cc, ap (λ (k : ℕ). drop k s) next ∙ tail-eq-of-cons-eq (tail-eq-of-cons-eq e′) ∙ append-assoc (tree-row l) (tree-row r) rest)
-
     pub none-mark : m ≤ a → Absent tree-row (Marked m) s (2 * i)
-    none-mark h (leaf b) rest k e = let e′ = sym (st .words) ∙ e in let z : _≡_ {A = ℕ} 0 1 = cc in omega arith
-    none-mark h (node b l r) rest k e = omega (arith, parts b l r rest e .0)
+    none-mark h x rest k e = let t = item-tells s i (Node a) x rest st e in let k′ = subst (Marked m) (t .2) k in omega (arith, k′ .0)
 
     pub none-left : length s ≤ 2 * (i + 1) → Absent tree-row (Marked m) s (2 * i)
-    none-left h (leaf b) rest k e = let e′ = sym (st .words) ∙ e in let z : _≡_ {A = ℕ} 0 1 = cc in omega arith
-    none-left h (node b l r) rest k e = omega (arith, tree-front s (2 * (i + 1)) l (tree-row r ++ rest) (parts b l r rest e .1) .0)
+    none-left h x rest k e = let t = item-tells s i (Node a) x rest st e in omega (arith, tree-front s (2 * (i + 1)) (t .0) (tree-row (t .1) ++ rest) (t .3) .0)
 
     module _ (mid kl : ℕ) (left : SubtreeAt t m s (i + 1) mid kl) where
       pub none-right : length s ≤ 2 * mid → Absent tree-row (Marked m) s (2 * i)
-      none-right h (leaf b) rest k e = let e′ = sym (st .words) ∙ e in let z : _≡_ {A = ℕ} 0 1 = cc in omega arith
-      none-right h (node b l r) rest k e =
-          let behind : drop (2 * mid) s ≡ tree-row r ++ rest = trees-apart (left .tree) l (drop (2 * mid) s) (tree-row r ++ rest) (sym (left .stands .words) ∙ parts b l r rest e .1) .1 in
-          omega (arith, tree-front s (2 * mid) r rest behind .0)
+      none-right h x rest k e =
+          let t = item-tells s i (Node a) x rest st e in
+          let behind : drop (2 * mid) s ≡ tree-row (t .1) ++ rest = trees-apart (left .tree) (t .0) (drop (2 * mid) s) (tree-row (t .1) ++ rest) (sym (left .stands .words) ∙ t .3) .1 in
+          omega (arith, tree-front s (2 * mid) (t .1) rest behind .0)
 
       pub some-node : (end kr k : ℕ) → a < m → SubtreeAt t m s mid end kr → k ≡ node-kind t a kl kr → SubtreeAt t m s i end k
       some-node end kr k h right e =

@@ -1,7 +1,11 @@
 // A job in lent words: where its parts stand.
-ghost use Prim.Native.Nat.{_≤_};
+ghost use mathlib.Core.Path.{_≡_};
+ghost use Prim.Native.Nat.{_+_, _*_, _≤_, _<_};
 ghost use lib.ListN.{length};
+ghost use Rattle.model.specs.Turns.{pattern-place};
 ghost use Rattle.rows.specs.Jobs.{JobRead, PlacesFound, TurnRead};
+ghost use Rattle.rows.specs.Numbered.{number};
+use crate::numbered::number_at;
 use crate::patterns::Bounds;
 use crate::patterns::read_patterns;
 use crate::tables::TypePlaces;
@@ -114,5 +118,29 @@ pub fn read_job(words: &[u32], index: &mut [u32]) -> Result<JobPlaces, JobRefusa
     match find_places(words, index) {
         Some(p) => Ok(p),
         None => Err(JobRefusal::NoJob),
+    }
+}
+
+impl JobPlaces {
+    // Where the pattern for leaves begins, by state and mark.
+    pub fn leaf_pattern(self, index: &[u32], state: u32, mark: u32) -> usize
+        requires room { ⌜ 4 * (self .turn .states * self .marks) ≤ length (now index) ⌝ }
+        requires state { ⌜ state < self .turn .states ⌝ }
+        requires mark { ⌜ mark < self .marks ⌝ }
+        ensures { λ r. ⌜ r ≡ number (now (index .entry)) (pattern-place (self .marks) state mark) ⌝ }
+    {
+        number_at(index, state as usize * self.marks as usize + mark as usize)
+    }
+
+    // Where the pattern for nodes begins, by state and mark.
+    pub fn node_pattern(self, index: &[u32], state: u32, mark: u32) -> usize
+        requires room { ⌜ 4 * (self .turn .states * self .marks) ≤ length (now index) ⌝ }
+        requires state { ⌜ state < self .turn .states ⌝ }
+        requires mark { ⌜ mark < self .marks ⌝ }
+        ensures { λ r. ⌜ r ≡ number (now (index .entry)) (self .turn .states * self .marks + pattern-place (self .marks) state mark) ⌝ }
+    {
+        let marks = self.marks as usize;
+        let first = self.turn.states as usize * marks;
+        number_at(index, first + (state as usize * marks + mark as usize))
     }
 }
