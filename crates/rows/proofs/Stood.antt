@@ -68,3 +68,11 @@ two s at v w h p q = both s (v ∷ []) (w ∷ []) at (at + 1) (at + 2) (one s at
 
 pub three : (s : List ℕ) (at u v w : ℕ) → at + 2 < length s → getD s at 0 ≡ u → getD s (at + 1) 0 ≡ v → getD s (at + 2) 0 ≡ w → Stands s at (at + 3) (u ∷ v ∷ w ∷ [])
 three s at u v w h p q r = both s (u ∷ v ∷ []) (w ∷ []) at (at + 2) (at + 3) (two s at u v (omega arith) p q) (one s (at + 2) (at + 3) w (omega arith) h r)
+
+-- what stands behind words that stand at a place
+pub rest-stands : (s p q : List ℕ) (at end : ℕ) → Stands s at end (p ++ q) → Stands s (at + length p) end q
+rest-stands s p q at end st = record {
+  words = past s p (q ++ drop end s) at (st .words ∙ append-assoc p q (drop end s));
+  long = omega (arith, st .long, length-append p q);
+  within = st .within;
+}

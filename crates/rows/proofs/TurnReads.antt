@@ -33,7 +33,7 @@ pattern-long (p-leaf a) = omega arith
 pattern-long (p-node a x y) = omega arith
 pattern-long (p-part q d) = omega arith
 
-patterns-long : (ps : List Pattern) → 2 * length ps ≤ length (patterns-row ps)
+pub patterns-long : (ps : List Pattern) → 2 * length ps ≤ length (patterns-row ps)
 patterns-long [] = omega arith
 patterns-long (p ∷ ps) = omega (arith, length-append (pattern-row p) (patterns-row ps), pattern-long p, patterns-long ps)
 

@@ -2,7 +2,7 @@
 ghost use mathlib.Core.Path.{_≡_};
 ghost use Prim.Native.Nat.{_+_, _*_, _≤_, _<_};
 ghost use lib.ListN.{length};
-ghost use Rattle.rows.specs.Subtrees.{ItemAt, SubtreeRead, Subtrees, TreeRead};
+ghost use Rattle.rows.specs.Subtrees.{ItemAt, SubtreeRead, Subtrees, TreeRead, item-row};
 ghost use Rattle.rows.specs.Tables.{TypeKnown, type-in};
 use crate::numbered::number_at;
 use crate::numbered::set_number;
@@ -13,6 +13,18 @@ use crate::tables::TypePlaces;
 pub enum Item {
     Leaf(u32),
     Node(u32),
+}
+
+impl Item {
+    // The two words of the item.
+    pub fn words(self) -> [u32; 2]
+        ensures { λ r. ⌜ r ≡ item-row self ⌝ }
+    {
+        match self {
+            Item::Leaf(a) => [0, a],
+            Item::Node(a) => [1, a],
+        }
+    }
 }
 
 // A subtree: the number of the leaf or node that follows it, and its kind.

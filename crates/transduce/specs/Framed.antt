@@ -7,6 +7,8 @@ use Rattle.std.specs.shelf.Lists.{All}
 use Rattle.model.specs.Trees.{Tree, Marked}
 use Rattle.model.specs.Turns.{Turn, WellFormedPattern, made}
 use Rattle.model.specs.Rows.{tree-row, patterns-row}
+use Rattle.rows.specs.declared.steps.Part.{Part}
+use Rattle.rows.specs.declared.steps.Part.the-variants.{Left, Right}
 use Rattle.rows.specs.Standing.{Stands}
 use Rattle.rows.specs.Numbered.{number}
 use Rattle.rows.specs.Tables.{type-in}
@@ -31,6 +33,10 @@ made-of src k x q = made (src .places .marks) (k .job .turns) x q
 -- the words of the result
 abbrev pub result-row : (src : Source) → SourceKnown src → List ℕ
 result-row src k = tree-row (made-of src k (k .tree .tree) 0)
+
+abbrev pub part-tree : Part → Tree → Tree → Tree
+part-tree Left l r = l
+part-tree Right l r = r
 
 -- the frame stands for the task: the number of the subtree, where its patterns stand, and how many
 pub record FrameKnown (src : Source) (k : SourceKnown src) (f : Frame) (x : Task) : Type 0 where

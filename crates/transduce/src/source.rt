@@ -6,7 +6,7 @@ ghost use lib.ListN.{length};
 ghost use Rattle.model.specs.Trees.{Tree, Marked, node as join};
 ghost use Rattle.model.specs.Rows.{tree-row};
 ghost use Rattle.rows.specs.Jobs.{Begins};
-ghost use Rattle.transduce.specs.Framed.{FrameKnown, SourceKnown};
+ghost use Rattle.transduce.specs.Framed.{FrameKnown, SourceKnown, part-tree};
 ghost use Rattle.transduce.specs.Tasks.{pattern-for};
 use crate::frames::Frame;
 use rows::jobs::JobPlaces;
@@ -46,6 +46,18 @@ impl<'a> Source<'a> {
                 let at = self.places.node_pattern(self.index, state, a);
                 Frame { node, at, count }
             }
+        }
+    }
+
+    // The number of a node's part.
+    pub fn part(self, node: usize, part: Part) -> usize
+        requires known { ⌜ SourceKnown self ⌝ }
+        requires inner { ⌜ 2 * (node + 1) < length (now (self .tree)) ⌝ }
+        ensures { λ r. ⌜ ((k : SourceKnown (self .entry)) (a : ℕ) (x y : Tree) → Begins (now (self .entry .tree)) (2 * node) (tree-row (join a x y)) → Begins (now (self .entry .tree)) (2 * r) (tree-row (part-tree part x y)) × (node < r)) ⌝ }
+    {
+        match part {
+            Part::Left => node + 1,
+            Part::Right => number_at(self.ends, node + 1),
         }
     }
 }
