@@ -59,14 +59,14 @@ module _ (src : Source) (k : SourceKnown src) where
       omega (arith, mul-add-lt q (src .places .marks) a (src .places .turn .states) p h)
 
   formed : (parts : Bool) (ps : List Pattern) (i : ℕ) → i < length ps → All (WellFormedPattern (src .places .marks) (k .job .turns .states) parts) ps
-    → WellFormedPattern (src .places .marks) (src .places .turn .states) parts (getD ps i (p-leaf 0))
+      → WellFormedPattern (src .places .marks) (src .places .turn .states) parts (getD ps i (p-leaf 0))
   formed parts ps i h all =
       subst (λ (n : ℕ). WellFormedPattern (src .places .marks) n parts (getD ps i (p-leaf 0))) (k .job .states)
       (all-getD (WellFormedPattern (src .places .marks) (k .job .turns .states) parts) ps i (p-leaf 0) h all)
 
   pub enter-leaf : (i q at a : ℕ) → q < src .places .turn .states → at ≡ number (src .index .now) (pattern-place (src .places .marks) q a)
-    → ItemAt (src .tree .now) i (Some (Leaf a)) → (x : Tree) → Marked (src .places .marks) x → Begins (src .tree .now) (2 * i) (tree-row x)
-    → FrameKnown src k (record { node = i; at = at; count = 1 }) (record { tree = x; patterns = pattern-for (src .places .marks) (k .job .turns) x q ∷ [] })
+      → ItemAt (src .tree .now) i (Some (Leaf a)) → (x : Tree) → Marked (src .places .marks) x → Begins (src .tree .now) (2 * i) (tree-row x)
+      → FrameKnown src k (record { node = i; at = at; count = 1 }) (record { tree = x; patterns = pattern-for (src .places .marks) (k .job .turns) x q ∷ [] })
   enter-leaf i q at a p e item x h st =
       let is-leaf : x ≡ leaf a = item-tells (src .tree .now) i (Leaf a) x _ item (st .words) in
       let t = k .job .turns in
@@ -88,8 +88,8 @@ module _ (src : Source) (k : SourceKnown src) where
       })
 
   pub enter-node : (i q at a : ℕ) → q < src .places .turn .states → at ≡ number (src .index .now) (src .places .turn .states * src .places .marks + pattern-place (src .places .marks) q a)
-    → ItemAt (src .tree .now) i (Some (Node a)) → (x : Tree) → Marked (src .places .marks) x → Begins (src .tree .now) (2 * i) (tree-row x)
-    → FrameKnown src k (record { node = i; at = at; count = 1 }) (record { tree = x; patterns = pattern-for (src .places .marks) (k .job .turns) x q ∷ [] })
+      → ItemAt (src .tree .now) i (Some (Node a)) → (x : Tree) → Marked (src .places .marks) x → Begins (src .tree .now) (2 * i) (tree-row x)
+      → FrameKnown src k (record { node = i; at = at; count = 1 }) (record { tree = x; patterns = pattern-for (src .places .marks) (k .job .turns) x q ∷ [] })
   enter-node i q at a p e item x h st =
       let tells = item-tells (src .tree .now) i (Node a) x _ item (st .words) in
       let l = tells .0 in

@@ -1,3 +1,4 @@
 pub mod Entering
 pub mod Walking
 pub mod Putting
+pub mod Progressing

@@ -45,7 +45,7 @@ module _ (used : ℕ) (orig out ws : List ℕ) (x : Item) (h : Written used orig
       let out-is : out ≡ ws ++ getD orig n 0 ∷ y ∷ zs = w .1 ∙ ap (λ (t : List ℕ). ws ++ t) rest in
       let first : set out used v ≡ ws ++ v ∷ y ∷ zs = ap (λ (t : List ℕ). set t used v) out-is ∙ set-at ws (getD orig n 0) (y ∷ zs) v used (sym (w .0)) in
       let second : set (set out used v) (used + 1) u ≡ (ws ++ v ∷ []) ++ u ∷ zs =
-          ap (λ (t : List ℕ). set t (used + 1) u) (first ∙ sym (append-assoc ws (v ∷ []) (y ∷ zs))) ∙ set-at (ws ++ v ∷ []) y zs u (used + 1) (omega (arith, length-push ws v, w .0)) in
+      ap (λ (t : List ℕ). set t (used + 1) u) (first ∙ sym (append-assoc ws (v ∷ []) (y ∷ zs))) ∙ set-at (ws ++ v ∷ []) y zs u (used + 1) (omega (arith, length-push ws v, w .0)) in
       let is-row : item-row x ≡ v ∷ u ∷ [] = sym (two-words x) ∙ sym (ap (λ (r : List ℕ). getD r 0 0 ∷ getD r 1 0 ∷ []) e) in
       let count : length (ws ++ item-row x) ≡ n + 1 + 1 = omega (arith, length-append ws (item-row x), item-long x) in (
         omega (arith, w .0, count),

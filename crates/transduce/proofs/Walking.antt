@@ -33,7 +33,7 @@ use Rattle.transduce.specs.Framed.{SourceKnown, FrameKnown, part-tree, frame-a
 use Rattle.transduce.specs.Walks.{Pending, Begun, Descended, AfterNode, AfterLeaf, GoesOn}
 use Rattle.transduce.proofs.Entering.{subtree-at}
 
-tree-long : (x : Tree) → 1 ≤ length (tree-row x)
+pub tree-long : (x : Tree) → 1 ≤ length (tree-row x)
 tree-long (leaf a) = omega arith
 tree-long (node a l r) = omega arith
 
@@ -73,7 +73,7 @@ is-node (leaf a) h = absurd (false≢true h)
 is-node (node a l r) h = record { mark = a; first = l; second = r; same = refl }
 
 -- what a state makes of a tree is its pattern, filled in
-made-filled : (m : ℕ) (t : Turn) (x : Tree) (q : ℕ) → filled (parts-of m t x) (pattern-for m t x q) ≡ made m t x q
+pub made-filled : (m : ℕ) (t : Turn) (x : Tree) (q : ℕ) → filled (parts-of m t x) (pattern-for m t x q) ≡ made m t x q
 made-filled m t (leaf a) q = refl
 made-filled m t (node a l r) q = refl
 
@@ -119,7 +119,7 @@ module _ (src : Source) (k : SourceKnown src) where
       pub row : task-row m t (record { tree = tree; patterns = first ∷ others }) ++ tasks-row m t todo ≡ rest
 
     opened-as : (x : Tree) (ps : List Pattern) (todo : List Task) → FrameKnown src k (pos .here) (record { tree = x; patterns = ps }) → Stack src k frames (pos .depth) todo → pos .depth ≤ pos .here .node
-      → task-row m t (record { tree = x; patterns = ps }) ++ tasks-row m t todo ≡ rest → Opened
+        → task-row m t (record { tree = x; patterns = ps }) ++ tasks-row m t todo ≡ rest → Opened
     opened-as x [] todo f st h e = absurd (omega (arith, f .some, f .counted))
     opened-as x (p ∷ ps) todo f st h e = record { tree = x; first = p; others = ps; todo = todo; here = f; stack = st; high = h; row = e }
 
@@ -130,6 +130,15 @@ module _ (src : Source) (k : SourceKnown src) where
     first-words : (o : Opened) → drop (pos .here .at) (src .job .now) ≡ pattern-row (o .first) ++ (patterns-row (o .others) ++ drop (o .here .end) (src .job .now))
     first-words o = o .here .stands .words ∙ append-assoc (pattern-row (o .first)) (patterns-row (o .others)) _
 
+    -- something comes of the first pattern
+    pub pending-long : Pending src k frames pos rest → 1 ≤ length rest
+    pending-long p =
+        let o = opened p in
+        let w = tree-row (filled (parts-of m t (o .tree)) (o .first)) in
+        let ws = joined (λ p. tree-row (filled (parts-of m t (o .tree)) p)) (o .others) in
+        let all : length ((w ++ ws) ++ tasks-row m t (o .todo)) ≡ length rest = ap length (o .row) in
+        omega (arith, length-append (w ++ ws) (tasks-row m t (o .todo)), length-append w ws, tree-long (filled (parts-of m t (o .tree)) (o .first)))
+
     pub no-step : Pending src k frames pos rest → Absent pattern-row (λ _. Unit {0}) (src .job .now) (pos .here .at) → ⊥
     no-step p absent = let o = opened p in absent (o .first) _ tt (first-words o)
 
@@ -139,8 +148,8 @@ module _ (src : Source) (k : SourceKnown src) where
 
     -- what is left of the frame behind words of its first pattern
     goes-on-with : (x : Tree) (qs ps : List Pattern) (w : List ℕ) (c : ℕ) (f : FrameKnown src k (pos .here) (record { tree = x; patterns = ps })) → patterns-row ps ≡ w ++ patterns-row qs
-      → All (WellFormedPattern m n (has-parts x)) qs → c ≡ length qs → 1 ≤ c
-      → FrameKnown src k (record { node = pos .here .node; at = pos .here .at + length w; count = c }) (record { tree = x; patterns = qs })
+        → All (WellFormedPattern m n (has-parts x)) qs → c ≡ length qs → 1 ≤ c
+        → FrameKnown src k (record { node = pos .here .node; at = pos .here .at + length w; count = c }) (record { tree = x; patterns = qs })
     goes-on-with x qs ps w c f e ok l h = record {
       marked = f .marked;
       subtree = f .subtree;
@@ -153,8 +162,8 @@ module _ (src : Source) (k : SourceKnown src) where
 
     -- a node: its two patterns come first
     node-opened : (a : ℕ) (x : Tree) (y z : Pattern) (os : List Pattern) (todo : List Task) → FrameKnown src k (pos .here) (record { tree = x; patterns = p-node a y z ∷ os }) → Stack src k frames (pos .depth) todo
-      → pos .depth ≤ pos .here .node → task-row m t (record { tree = x; patterns = p-node a y z ∷ os }) ++ tasks-row m t todo ≡ rest
-      → AfterNode src k frames (record { here = record { node = pos .here .node; at = pos .here .at + 2; count = pos .here .count + 1 }; depth = pos .depth }) a rest
+        → pos .depth ≤ pos .here .node → task-row m t (record { tree = x; patterns = p-node a y z ∷ os }) ++ tasks-row m t todo ≡ rest
+        → AfterNode src k frames (record { here = record { node = pos .here .node; at = pos .here .at + 2; count = pos .here .count + 1 }; depth = pos .depth }) a rest
     node-opened a x y z os todo f st h e =
         let put = λ (p : Pattern). tree-row (filled (parts-of m t x) p) in
         let fy = put y in
@@ -177,7 +186,7 @@ module _ (src : Source) (k : SourceKnown src) where
         }
 
     pub node-after : (a : ℕ) → Begun src pos (Node a) → Pending src k frames pos rest
-      → AfterNode src k frames (record { here = record { node = pos .here .node; at = pos .here .at + 2; count = pos .here .count + 1 }; depth = pos .depth }) a rest
+        → AfterNode src k frames (record { here = record { node = pos .here .node; at = pos .here .at + 2; count = pos .here .count + 1 }; depth = pos .depth }) a rest
     node-after a b p =
         let o = opened p in
         let s = tells (src .job .now) (pos .here .at) (Node a) (o .first) _ b (first-words o) in
@@ -211,7 +220,7 @@ module _ (src : Source) (k : SourceKnown src) where
         }
 
     pub leaf-next : (a : ℕ) → Begun src pos (Leaf a) → 1 < pos .here .count → Pending src k frames pos rest
-      → AfterLeaf src k frames (Some (record { here = record { node = pos .here .node; at = pos .here .at + 2; count = pos .here .count - 1 }; depth = pos .depth })) a rest
+        → AfterLeaf src k frames (Some (record { here = record { node = pos .here .node; at = pos .here .at + 2; count = pos .here .count - 1 }; depth = pos .depth })) a rest
     leaf-next a b h p =
         let o = leaf-opened a b p in
         record {
@@ -246,7 +255,7 @@ module _ (src : Source) (k : SourceKnown src) where
         at-end (x ∷ xs) st e = absurd (omega (arith, st .0))
 
     pub leaf-below : (a : ℕ) (next : Frame) → next ≡ frame-at frames (pos .depth - 1) → Begun src pos (Leaf a) → pos .here .count ≤ 1 → (pos .depth ≡ 0 → ⊥) → Pending src k frames pos rest
-      → AfterLeaf src k frames (Some (record { here = next; depth = pos .depth - 1 })) a rest
+        → AfterLeaf src k frames (Some (record { here = next; depth = pos .depth - 1 })) a rest
     leaf-below a next is b h z p =
         subst (λ (f : Frame). AfterLeaf src k frames (Some (record { here = f; depth = pos .depth - 1 })) a rest) (sym is) (let l = leaf-last a b h p in at-frame (l .0) (l .1) (l .2))
       where
@@ -314,8 +323,8 @@ module _ (src : Source) (k : SourceKnown src) where
           record { task = record { tree = part-of o; patterns = pattern-for m t (part-of o) q ∷ [] }; todo = o .todo; here = e; stack = o .stack; high = omega (arith, o .high); row = r }
 
       pub first-part : (f : Frame) (new : List ℕ) → (pos .here .count ≡ 1 → ⊥) → pos .here .node < f .node → Entered (at-part q d b p) f
-        → Saved frames new (pos .depth) (record { node = pos .here .node; at = pos .here .at + 3; count = pos .here .count - 1 })
-        → Pending src k new (record { here = f; depth = pos .depth + 1 }) rest
+          → Saved frames new (pos .depth) (record { node = pos .here .node; at = pos .here .at + 3; count = pos .here .count - 1 })
+          → Pending src k new (record { here = f; depth = pos .depth + 1 }) rest
       first-part f new c l e saved =
           let o = at-part q d b p in
           let x = node (o .mark) (o .first) (o .second) in
@@ -332,7 +341,7 @@ module _ (src : Source) (k : SourceKnown src) where
               omega arith,
               subst (λ (z : Frame). pos .depth + 1 - 1 ≤ z .node) (sym frame) (omega (arith, o .high)),
               subst (λ (z : Frame). FrameKnown src k z waits) (sym frame)
-              (goes-on-with x (o .others) (p-part q (side-of d) ∷ o .others) (2 ∷ q ∷ side-word (side-of d) ∷ []) (pos .here .count - 1) (o .here) refl (o .here .well-formed .1) (omega (arith, o .here .counted)) some),
+                  (goes-on-with x (o .others) (p-part q (side-of d) ∷ o .others) (2 ∷ q ∷ side-word (side-of d) ∷ []) (pos .here .count - 1) (o .here) refl (o .here .well-formed .1) (omega (arith, o .here .counted)) some),
               subst (λ (z : ℕ). Stack src k new z (o .todo)) (sym below) (stack-kept frames new (pos .depth) (o .todo) kept (o .stack)),
             );
             high = omega (arith, o .high);
