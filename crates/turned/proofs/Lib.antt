@@ -1,0 +1,3 @@
+pub mod FilledIn
+pub mod Counted
+pub mod Saying
