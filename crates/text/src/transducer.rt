@@ -1,0 +1,259 @@
+// The section of a turn: its states, and for each state and mark a pattern for leaves and one for nodes.
+use crate::lexer::Keyword;
+use crate::lexer::TokenKind;
+use crate::lexer::TokenKindPartialEq;
+use crate::mistakes::Fault;
+use crate::mistakes::FaultFromAlloc;
+use crate::mistakes::FaultFromRefused;
+use crate::mistakes::Mistake;
+use crate::mistakes::Sort;
+use crate::naming::Names;
+use crate::parser::Parser;
+use crate::parser::Word;
+use crate::table::Table;
+use crate::table::crossed;
+use std::alloc::AllocError;
+use std::alloc::Global;
+ghost use Prim.Native.Nat.{_<_, _≤_};
+ghost use Rattle.std.specs.Vec.{made};
+ghost use Rattle.text.specs.Progress.{left};
+
+// A pattern is at most so deep; a leaf is 1 deep.
+const DEEPEST: u32 = 64;
+
+// What the words of a pattern's row are made from.
+#[derive(Clone, Copy)]
+enum Piece {
+    Word(u32),
+    // The mark of the case, which the rule has as `_`.
+    SameMark,
+}
+
+// What the names in a pattern stand for.
+#[derive(Clone, Copy)]
+struct Scope<'n> {
+    marks: &'n Names,
+    states: &'n Names,
+    // Whether the rule is for nodes, which have parts.
+    is_node: bool,
+}
+
+// A turn as far as it is read. Its cases: a leaf by the state and the mark, the mark fastest; then a node likewise.
+#[derive(Drop)]
+struct Transducer<'n> {
+    marks: &'n Names,
+    states: Names,
+    patterns: Table<Vec<Piece>>,
+}
+
+impl Transducer<'_> {
+    // How many cases are of leaves.
+    fn leaves(&self) -> usize
+        ensures some { λ r. ⌜ 0 < r ⌝ }
+        ensures few { λ r. ⌜ r ≤ 4096 ⌝ }
+    {
+        self.states.count() as usize * self.marks.count() as usize
+    }
+
+    fn case_name(&self, heap: Global, case: usize) -> Result<String, AllocError> {
+        let leaves = self.leaves();
+        let count = self.marks.count() as usize;
+        let state = self.states.name(heap, case % leaves / count)?;
+        let mark = self.marks.name(heap, case % count)?;
+        if case < leaves {
+            format!(heap, "{state}({mark})")
+        } else {
+            format!(heap, "{state}({mark}(left, right))")
+        }
+    }
+}
+
+// Writes a pattern for a case with the mark.
+fn write_pattern(pattern: &[Piece], mark: u32, words: &mut Vec<u32>) -> Result<(), AllocError> {
+    for piece in pattern {
+        match piece {
+            Piece::Word(word) => words.push(*word)?,
+            Piece::SameMark => words.push(mark)?,
+        }
+    }
+    Ok(())
+}
+
+impl<'a> Parser<'a> {
+    // Reads a turn, writes its row behind `words`, and gives its states.
+    pub fn transducer(&mut self, marks: &Names, words: &mut Vec<u32>) -> Result<Names, Fault> {
+        self.expect(TokenKind::Reserved(Keyword::Turn))?;
+        self.expect(TokenKind::OpenBrace)?;
+        let states = self.declared(Keyword::States, Sort::State)?;
+        let leaves = states.count() as usize * marks.count() as usize;
+        let patterns = Table::new(self.heap, 2 * leaves)?;
+        let mut transducer = Transducer {
+            marks,
+            states,
+            patterns,
+        };
+        while self.lexer.kind() != TokenKind::CloseBrace {
+            self.transducer_rule(&mut transducer)?;
+        }
+        self.transducer_row(&transducer, words)?;
+        self.advance()?;
+        let Transducer {
+            marks: _,
+            states,
+            patterns: _,
+        } = transducer;
+        Ok(states)
+    }
+
+    // `STATES(MARKS) -> PATTERN`, or `STATES(MARKS(left, right)) -> PATTERN`.
+    fn transducer_rule(&mut self, transducer: &mut Transducer<'_>) -> Result<(), Fault>
+        ensures { λ r. ⌜ made r (λ _. left (now (self .exit)) < left (now (self .entry))) ⌝ }
+    {
+        let start = self.lexer.offset();
+        let states = self.choice(&transducer.states, "a rule or `}`")?;
+        self.expect(TokenKind::OpenParen)?;
+        let marks = self.choice(transducer.marks, "a mark")?;
+        let is_node = self.parts()?;
+        self.expect(TokenKind::CloseParen)?;
+        self.expect(TokenKind::Arrow)?;
+        let mut pattern = Vec::new(self.heap);
+        let scope = Scope {
+            marks: transducer.marks,
+            states: &transducer.states,
+            is_node,
+        };
+        self.pattern(scope, DEEPEST, &mut pattern)?;
+        let first = if is_node { transducer.leaves() } else { 0 };
+        let rows = crossed(self.heap, 0, &[0], 1, &states)?;
+        let cases = crossed(
+            self.heap,
+            first,
+            &rows,
+            transducer.marks.count() as usize,
+            &marks,
+        )?;
+        if let Some(clash) = transducer.patterns.clash(&cases) {
+            let case = transducer.case_name(self.heap, clash.case)?;
+            let line = self.lexer.place(clash.start).line;
+            return Err(self.fault_at(start, Mistake::CaseTwice { case, line }));
+        }
+        transducer.patterns.add(&cases, start, pattern)?;
+        Ok(())
+    }
+
+    // Whether `(left, right)` stands here, which is then read.
+    fn parts(&mut self) -> Result<bool, Fault>
+        ensures { λ r. ⌜ made r (λ _. left (now (self .exit)) ≤ left (now (self .entry))) ⌝ }
+    {
+        match self.lexer.kind() {
+            TokenKind::CloseParen => Ok(false),
+            TokenKind::OpenParen => {
+                self.advance()?;
+                self.expect(TokenKind::Reserved(Keyword::Left))?;
+                self.expect(TokenKind::Comma)?;
+                self.expect(TokenKind::Reserved(Keyword::Right))?;
+                self.expect(TokenKind::CloseParen)?;
+                Ok(true)
+            }
+            _ => Err(self.unexpected("`(` or `)`")),
+        }
+    }
+
+    // The name or number that a pattern begins with, or none for `_`.
+    fn head(&mut self) -> Result<Option<Word<'a>>, Fault>
+        ensures { λ r. ⌜ made r (λ _. left (now (self .exit)) < left (now (self .entry))) ⌝ }
+    {
+        if self.lexer.kind() == TokenKind::Underscore {
+            self.advance()?;
+            return Ok(None);
+        }
+        let word = self.word("a pattern")?;
+        Ok(Some(word))
+    }
+
+    fn mark(&self, head: Option<Word<'a>>, marks: &Names) -> Result<Piece, Fault> {
+        match head {
+            Some(word) => {
+                let mark = self.resolve(word, marks)?;
+                Ok(Piece::Word(mark))
+            }
+            None => Ok(Piece::SameMark),
+        }
+    }
+
+    // Reads a pattern that may be `depth_left` deep, and writes its pieces behind `pattern`.
+    fn pattern(
+        &mut self,
+        scope: Scope<'_>,
+        depth_left: u32,
+        pattern: &mut Vec<Piece>,
+    ) -> Result<(), Fault>
+        ensures { λ r. ⌜ made r (λ _. left (now (self .exit)) < left (now (self .entry))) ⌝ }
+    {
+        if depth_left == 0 {
+            return Err(self.fault(Mistake::Deep));
+        }
+        let head = self.head()?;
+        if self.lexer.kind() != TokenKind::OpenParen {
+            pattern.push(Piece::Word(0))?;
+            pattern.push(self.mark(head, scope.marks)?)?;
+            return Ok(());
+        }
+        self.advance()?;
+        match self.lexer.kind() {
+            TokenKind::Reserved(Keyword::Left) => self.part(head, 0, scope, pattern)?,
+            TokenKind::Reserved(Keyword::Right) => self.part(head, 1, scope, pattern)?,
+            _ => {
+                pattern.push(Piece::Word(1))?;
+                pattern.push(self.mark(head, scope.marks)?)?;
+                self.pattern(scope, depth_left - 1, pattern)?;
+                self.expect(TokenKind::Comma)?;
+                self.pattern(scope, depth_left - 1, pattern)?;
+            }
+        }
+        self.expect(TokenKind::CloseParen)?;
+        Ok(())
+    }
+
+    // What a state makes of a part, whose side is the token.
+    fn part(
+        &mut self,
+        head: Option<Word<'a>>,
+        side: u32,
+        scope: Scope<'_>,
+        pattern: &mut Vec<Piece>,
+    ) -> Result<(), Fault>
+        ensures { λ r. ⌜ made r (λ _. left (now (self .exit)) < left (now (self .entry))) ⌝ }
+    {
+        let Some(word) = head else {
+            return Err(self.unexpected("a pattern"));
+        };
+        if !scope.is_node {
+            return Err(self.fault_at(word.offset, Mistake::PartOfLeaf));
+        }
+        let state = self.resolve(word, scope.states)?;
+        pattern.push(Piece::Word(2))?;
+        pattern.push(Piece::Word(state))?;
+        pattern.push(Piece::Word(side))?;
+        self.advance()?;
+        Ok(())
+    }
+
+    // Writes the number of states and the pattern of each case.
+    fn transducer_row(
+        &self,
+        transducer: &Transducer<'_>,
+        words: &mut Vec<u32>,
+    ) -> Result<(), Fault> {
+        words.push(transducer.states.count())?;
+        let count = transducer.marks.count() as usize;
+        for case in 0..transducer.patterns.len() {
+            let Some(pattern) = transducer.patterns.result(case) else {
+                let case = transducer.case_name(self.heap, case)?;
+                return Err(self.fault(Mistake::CaseMissing { case }));
+            };
+            write_pattern(pattern, (case % count) as u32, words)?;
+        }
+        Ok(())
+    }
+}
