@@ -58,7 +58,7 @@ pub const SWAP: [u32; 48] = [
 // 0(0, 0(1, 0))
 pub const SAMPLE: [u32; 10] = [1, 0, 0, 0, 1, 0, 0, 1, 0, 0];
 
-// How large a job is: its patterns for nodes are this deep, and it uses no part.
+// How large a job is: its patterns for nodes are this deep, and use no part; all trees are of its types.
 #[derive(Clone, Copy)]
 pub struct Sizes {
     pub marks: u32,
@@ -74,14 +74,14 @@ fn push_zeros(job: &mut Vec<u32>, count: u32) -> Result<(), AllocError> {
     Ok(())
 }
 
-// A type whose every tree is of kind 0, which is not wanted.
+// A type whose every tree is of kind 0, which is wanted.
 fn push_type(job: &mut Vec<u32>, marks: u32, kinds: u32) -> Result<(), AllocError> {
     job.push(kinds)?;
     push_zeros(job, marks)?;
     for _ in 0..u64::from(kinds) * u64::from(kinds) {
         push_zeros(job, marks)?;
     }
-    job.push(0)?;
+    job.extend_from_slice(&[1, 0])?;
     Ok(())
 }
 
@@ -135,4 +135,22 @@ pub fn left_comb(heap: Global, nodes: u32) -> Result<Vec<u32>, AllocError> {
         tree.extend_from_slice(&[0, 1])?;
     }
     Ok(tree)
+}
+
+// A job with these patterns for leaves and for nodes, by state and mark; all trees are of its types.
+pub fn job_of(
+    heap: Global,
+    marks: u32,
+    states: u32,
+    leaves: &[u32],
+    nodes: &[u32],
+) -> Result<Vec<u32>, AllocError> {
+    let mut job = Vec::new(heap);
+    job.push(marks)?;
+    push_type(&mut job, marks, 1)?;
+    job.push(states)?;
+    job.extend_from_slice(leaves)?;
+    job.extend_from_slice(nodes)?;
+    push_type(&mut job, marks, 1)?;
+    Ok(job)
 }

@@ -1,5 +1,6 @@
-// Runs the readers on the worked case, on jobs and trees at their limits, and on bad input of every sort.
+// Runs the readers and the calls on the worked case, on jobs and trees at their limits, and on bad input of every sort.
 mod jobs;
+mod turns;
 
 use jobs::SAMPLE;
 use jobs::SWAP;
@@ -195,7 +196,8 @@ fn run(rt: &LibcRuntime) -> Result<(), AnyError> {
     show_job(rt, "swap", &SWAP)?;
     bad_jobs(rt)?;
     limits(rt)?;
-    trees(rt)
+    trees(rt)?;
+    turns::show_turns(rt)
 }
 
 fn main(rt: LibcRuntime) -> Result<(), AnyError> {

@@ -1,8 +1,8 @@
--- One leaf or node more is put out: two words are counted, or written behind those that stand there.
+-- One leaf or node more is written behind the words that stand there: two writes at the end of them.
 use mathlib.Core.Path.{_≡_, refl, sym, _∙_, ap, subst}
 use mathlib.Core.Logic.{_⊎_, inl, inr}
 use mathlib.Core.List.{List, [], _∷_, _++_, append-assoc}
-use Prim.Native.Nat.{ℕ, suc, _+_, _-_, _^_, _≤_, _<_, min}
+use Prim.Native.Nat.{ℕ, _+_, _-_, _≤_, _<_}
 use native.Mathlib.Omega.{arith}
 use lib.ListN.{length, getD, set, drop, length-append, length-drop}
 use Rattle.std.proofs.shelf.Lists.{drop-more, set-at, length-push}
@@ -55,7 +55,3 @@ module _ (used : ℕ) (orig out ws : List ℕ) (x : Item) (h : Written used orig
       two-words : (x : Item) → getD (item-row x) 0 0 ∷ getD (item-row x) 1 0 ∷ [] ≡ item-row x
       two-words (Leaf a) = refl
       two-words (Node a) = refl
-
--- two more, counted up to the greatest number
-pub count-two : (n : ℕ) (ws : List ℕ) (x : Item) → n ≡ min (length ws) (2 ^ 64 - 1) → min (n + 2) (2 ^ 64 - 1) ≡ min (length (ws ++ item-row x)) (2 ^ 64 - 1)
-count-two n ws x e = omega (arith, length-append ws (item-row x), item-long x)

@@ -1,7 +1,8 @@
-use mathlib.Core.Path.{_∙_}
 use native.Mathlib.Omega.{arith}
-use Rattle.transduce.proofs.Putting.{count-two}
+use lib.ListN.{length-append}
+use Rattle.rows.specs.Subtrees.{item-row}
+use Rattle.transduce.proofs.Putting.{item-long}
 use Rattle.transduce.proofs.sinks.CounterSink.put.Needs as need
 
 pub returns : need.returns
-returns c orig ws h = (c .saturating-add-self .ensures ∙ count-two (c .args .self .now .words) ws (c .args .item) (h .0), h .1)
+returns c orig ws h = (omega (arith, h .0, length-append ws (item-row (c .args .item)), item-long (c .args .item)), h .1)
