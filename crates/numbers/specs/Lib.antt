@@ -1,0 +1,2 @@
+-- What number a list of words is.
+pub mod Value

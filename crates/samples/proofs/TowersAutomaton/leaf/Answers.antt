@@ -1,0 +1,5 @@
+use Rattle.samples.proofs.OneWord.{set-one}
+use Rattle.samples.proofs.TowersAutomaton.leaf.Needs as need
+
+pub returns : need.returns
+returns c = set-one (c .args .out .now) _ _ (c .pre .out) (c .tower-leaf .ensures)

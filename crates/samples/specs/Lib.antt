@@ -1,0 +1,2 @@
+-- What the sample automata give to trees.
+pub mod Meanings

@@ -1,0 +1,4 @@
+pub mod Computing
+pub mod Codes
+pub mod Telling
+pub mod Evaluated
