@@ -2,3 +2,4 @@
 pub mod Signatures
 pub mod Laws
 pub mod Evaluating
+pub mod Parsing
