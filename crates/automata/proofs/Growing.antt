@@ -100,9 +100,6 @@ module _ (A : TreeAutomaton) where
   pub covered-alike : (ts : List Tree) (x y : Tree) → Alike A x y → Le x y → Covered A ts x → Covered A ts y
   covered-alike ts x y e u c = record { place = c .place; within = c .within; alike = c .alike ∙ e; le = le-le _ x y (c .le) u }
 
-  pub covered-has : (ts : List Tree) (y : Tree) → Covered A ts y → Has A ts y
-  covered-has ts y c = record { place = c .place; within = c .within; alike = c .alike }
-
   -- a tree at hand of a class that is not settled, not greater than y
   pub record OpenBelow (S ts : List Tree) (y : Tree) : Type 0 where
     pub place : ℕ

@@ -1,4 +1,5 @@
--- Lists of trees with one more at the end: what holds of each tree before and of the new one holds of all.
+-- Lists of trees with one more at the end: what holds of each tree before and of the new one holds of all, since a place is
+-- one of the old ones or the last.
 use mathlib.Core.Path.{_≡_, refl, sym, subst}
 use mathlib.Core.List.{List, [], _∷_, _++_}
 use Prim.Native.Nat.{ℕ, _<_}

@@ -10,7 +10,7 @@ use Rattle.model.specs.Trees.{Tree, leaf, node, size, Marked}
 use Rattle.automata.specs.Automata.{TreeAutomaton, sig}
 use Rattle.automata.specs.Classes.{at, Has, OneOfEach, Classes}
 use Rattle.automata.specs.Laws.{AutomatonLaws, Closed}
-use Rattle.automata.proofs.Growing.{alike-nodes, has-alike}
+use Rattle.automata.proofs.Growing.{alike-nodes, has-alike, plain-alphabet}
 use Rattle.automata.proofs.Places.{by-places, parts-before, parts-least, settled-sizes, classes-settled}
 use Rattle.automata.proofs.Counting.{counted}
 use Rattle.automata.proofs.Finiteness.{finite}
@@ -34,6 +34,7 @@ sizes A ts c i h =
 pub laws : AutomatonLaws
 laws = record {
   by-parts = alike-nodes;
+  plain-letters = plain-alphabet;
   finite = finite;
   one-tells = λ A test x y e. ap test e;
   one-tells-all = one-tells-all;

@@ -7,7 +7,7 @@ use mathlib.Core.List.{List}
 use Prim.Native.Nat.{ℕ, _+_, _^_, _≤_, _<_}
 use lib.ListN.{length}
 use Rattle.model.specs.Trees.{Tree, leaf, node, size, Marked, Less}
-use Rattle.automata.specs.Automata.{TreeAutomaton, sig, Alike}
+use Rattle.automata.specs.Automata.{TreeAutomaton, sig, Alike, Alphabet}
 use Rattle.automata.specs.Classes.{at, Has, Least, Rising, OneOfEach, Classes, MoreThan}
 use Rattle.automata.specs.Links.{Link, Placed, Linked, Precedes, Ties}
 
@@ -30,6 +30,8 @@ pub record Closed (A : TreeAutomaton) (ts : List Tree) : Type 0 where
 pub record AutomatonLaws : Type 0 where
   -- the class of a node is fixed by its mark and its parts' classes
   pub by-parts : (A : TreeAutomaton) (a : ℕ) (l l′ r r′ : Tree) → Alike A l l′ → Alike A r r′ → Alike A (node a l r) (node a l′ r′)
+  -- where each mark is a letter, the letters stand in for all marks
+  pub plain-letters : (A : TreeAutomaton) → Alphabet A (A .marks) (λ i. i)
   -- there are finitely many classes
   pub finite : (A : TreeAutomaton) (bound : ℕ) (code : List ℕ → ℕ) → Coded A bound code → Finite A bound
   -- one tree of a class tells of every tree of it, whatever is read off the signature

@@ -1,4 +1,5 @@
--- A tree put at a place of a list, which may be its end: what stands where then.
+-- A tree put at a place of a list, which may be its end: it stands there, and the others where they stood, by induction on
+-- the list. What holds of each of them holds of all.
 use mathlib.Core.Path.{_≡_, refl, sym, ap, subst}
 use mathlib.Core.List.{List, [], _∷_}
 use Prim.Native.Nat.{ℕ, zero, suc, _+_, _<_, _≤_, suc-le-suc}

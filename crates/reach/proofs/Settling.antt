@@ -100,6 +100,7 @@ module _ (A : TreeAutomaton) (old : Table) (u : Turn A old) where
     classes = all-settled A S (s .trees) (s .settled-trees) (u .leaves) (u .nodes) (λ k h. ranked-has k h (f k (omega (arith, s .rows))));
     state = s;
     few = omega (arith, few-settled A S old s, s .room .few-rows);
+    all-ranked = f;
   }
 
   module _ (new : Table) (k : ℕ) (least : LeastOpen old (old .count) k) (p : Settles k old new) (room : Room new) (chains : Chains new) where

@@ -1,4 +1,5 @@
--- Offers one after another: what the trees at hand cover, they go on covering, so that each loop adds to what was reached.
+-- Offers one after another. What the trees at hand cover they go on covering, so that steps compose and each loop adds to
+-- what was reached; a step that finds one class too many does so for the steps before it.
 use mathlib.Core.Path.{_≡_, refl, sym, _∙_, ap, subst}
 use mathlib.Core.Bool.{Bool, true, false}
 use mathlib.Core.List.{List}

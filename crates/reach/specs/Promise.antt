@@ -6,6 +6,7 @@ use Rattle.model.specs.Trees.{Tree}
 use Rattle.automata.specs.Automata.{TreeAutomaton}
 use Rattle.automata.specs.Classes.{OneOfEach, Classes, MoreThan}
 use Rattle.table.specs.declared.Table.{Table}
+use Rattle.table.specs.Tables.{rank-at}
 use Rattle.reach.specs.declared.Found.{Found}
 use Rattle.reach.specs.declared.Found.the-variants.{All, TooMany}
 use Rattle.reach.specs.Searching.{State}
@@ -16,6 +17,7 @@ pub record AllFound (A : TreeAutomaton) (t : Table) : Type 0 where
   pub classes : Classes A trees
   pub state : State A trees t
   pub few : t .settled ≤ t .shape .most
+  pub all-ranked : (k : ℕ) → k < t .count → 0 < rank-at t k
 
 -- there are more than n classes: as many trees that are not alike, and so every list with one tree of each class is longer
 pub record MoreClasses (A : TreeAutomaton) (n : ℕ) : Type 0 where

@@ -1,4 +1,5 @@
--- Signatures of one word: written by one store, and as long where some tree has them, since leaves and nodes are.
+-- Signatures of one word: one store writes such a signature, and where some tree has a signature it is one word long, since
+-- that of each leaf and node is.
 use mathlib.Core.Path.{_≡_, ap, _∙_}
 use mathlib.Core.List.{List, [], _∷_}
 use Prim.Native.Nat.{ℕ}

@@ -1,4 +1,5 @@
--- The least of the open rows, kept while rows are passed: it rests on the comparison by size, mark and places being transitive.
+-- The least of the open rows, kept while rows are passed: a row that comes before the best so far comes before all that the
+-- best comes before, since the comparison by size, mark and places is transitive.
 use mathlib.Core.Path.{_≡_, sym, _∙_, ap, subst}
 use mathlib.Core.Logic.{_⊎_, inl, inr}
 use mathlib.Core.List.{List}

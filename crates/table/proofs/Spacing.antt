@@ -1,4 +1,5 @@
--- Rows of a region lie side by side: a row below `most` fits in, and writing one leaves the others as they were.
+-- Rows of a region lie side by side: each fits in, and writing one leaves the others as they were, since a row before it
+-- ends where it begins or earlier.
 use mathlib.Core.Path.{_≡_, sym, ap, _∙_}
 use mathlib.Core.Logic.{inl, inr}
 use mathlib.Core.List.{List}

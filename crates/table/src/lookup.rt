@@ -34,7 +34,7 @@ impl<'a> Table<'a> {
         ensures is { λ r. ⌜ now r ≡ sig-at (now (self .entry)) k ⌝ }
         ensures long { λ r. ⌜ length (now r) ≡ now (self .entry) .shape .width ⌝ }
     {
-        row_of(self.sigs, self.shape.width, k)
+        row_of(self.sigs, self.shape.most, self.shape.width, k)
     }
 
     // The best tree known for row k.
@@ -45,8 +45,8 @@ impl<'a> Table<'a> {
         ensures size { λ r. ⌜ length (now (r .size)) ≡ now (self .entry) .shape .words ⌝ }
         ensures link { λ r. ⌜ length (now (r .link)) ≡ 3 ⌝ }
     {
-        let size = row_of(self.sizes, self.shape.words, k);
-        let link = row_of(self.links, LINK, k);
+        let size = row_of(self.sizes, self.shape.most, self.shape.words, k);
+        let link = row_of(self.links, self.shape.most, LINK, k);
         Candidate { size, link }
     }
 
@@ -77,9 +77,9 @@ impl<'a> Table<'a> {
         ensures chains { λ _. ⌜ (Chains (now (self .entry)) → Chains (now (self .exit))) ⌝ }
         ensures room { λ _. ⌜ Room (now (self .exit)) ⌝ }
     {
-        let words = self.shape.words;
-        write_row(self.sizes, words, k, tree.size);
-        write_row(self.links, LINK, k, tree.link);
+        let (most, words) = (self.shape.most, self.shape.words);
+        write_row(self.sizes, most, words, k, tree.size);
+        write_row(self.links, most, LINK, k, tree.link);
     }
     // Opens a row for a class that has none.
     pub fn insert(&mut self, key: &[u32], tree: Candidate)
@@ -96,9 +96,9 @@ impl<'a> Table<'a> {
     {
         let k = self.count;
         let shape = self.shape;
-        write_row(self.sigs, shape.width, k, key);
-        write_row(self.sizes, shape.words, k, tree.size);
-        write_row(self.links, LINK, k, tree.link);
+        write_row(self.sigs, shape.most, shape.width, k, key);
+        write_row(self.sizes, shape.most, shape.words, k, tree.size);
+        write_row(self.links, shape.most, LINK, k, tree.link);
         let chain = hash(key, self.heads.len());
         self.nexts[k] = self.heads[chain];
         self.heads[chain] = k as u32 + 1;

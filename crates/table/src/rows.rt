@@ -1,13 +1,14 @@
-// Rows of a region: row k of width w is the words from k * w on.
+// Rows of a region: row k is the words from k times the width on.
 ghost use mathlib.Core.Path.{_≡_};
 ghost use mathlib.Core.Bool.{true, false};
-ghost use Prim.Native.Nat.{_+_, _*_, _≤_};
+ghost use Prim.Native.Nat.{_*_, _<_, _≤_};
 ghost use lib.ListN.{length};
 ghost use Rattle.table.specs.Rows.{row, Written};
 
-// Row k.
-pub fn row_of(region: &[u32], width: usize, k: usize) -> &[u32]
-    requires { ⌜ k * width + width ≤ length (now region) ⌝ }
+// Row k of so many rows.
+pub fn row_of(region: &[u32], rows: usize, width: usize, k: usize) -> &[u32]
+    requires row { ⌜ k < rows ⌝ }
+    requires room { ⌜ rows * width ≤ length (now region) ⌝ }
     ensures is { λ r. ⌜ now r ≡ row width k (now (region .entry)) ⌝ }
     ensures long { λ r. ⌜ length (now r) ≡ width ⌝ }
 {
@@ -15,9 +16,10 @@ pub fn row_of(region: &[u32], width: usize, k: usize) -> &[u32]
     &region[at..at + width]
 }
 
-// Writes row k, and nothing else.
-pub fn write_row(region: &mut [u32], width: usize, k: usize, from: &[u32])
-    requires room { ⌜ k * width + width ≤ length (now region) ⌝ }
+// Writes row k of so many rows, and nothing else.
+pub fn write_row(region: &mut [u32], rows: usize, width: usize, k: usize, from: &[u32])
+    requires row { ⌜ k < rows ⌝ }
+    requires room { ⌜ rows * width ≤ length (now region) ⌝ }
     requires long { ⌜ length (now from) ≡ width ⌝ }
     ensures { λ _. ⌜ Written width k (now (from .entry)) (now (region .entry)) (now (region .exit)) ⌝ }
 {

@@ -1,21 +1,9 @@
 use mathlib.Core.Path.{refl}
 use native.Mathlib.Omega.{arith}
 use Rattle.std.proofs.shelf.Lists.{length-set}
-use Rattle.table.proofs.Spacing.{row-fits, same-tree}
+use Rattle.table.proofs.Spacing.{same-tree}
 use Rattle.table.proofs.Chaining.{chain-inserted}
 use Rattle.table.proofs.Table.insert.Needs as need
-
-pub write-row-requires : need.write-row-requires
-write-row-requires c κs = record {
-  room = row-fits (c .args .self .now .shape .width) (c .args .self .now .count) (c .args .self .now .shape .most) _ (c .pre .free) (c .pre .room .for-sigs);
-  long = c .pre .key;
-}
-
-pub write-row-requires-2 : need.write-row-requires-2
-write-row-requires-2 c κs = record {
-  room = row-fits (c .args .self .now .shape .words) (c .args .self .now .count) (c .args .self .now .shape .most) _ (c .pre .free) (c .pre .room .for-sizes);
-  long = c .pre .size;
-}
 
 pub returns : need.returns
 returns c = record {

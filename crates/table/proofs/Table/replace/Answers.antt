@@ -1,13 +1,7 @@
 use mathlib.Core.Path.{refl}
 use borrow.Author.Needs.{needs}
-use Rattle.table.proofs.Spacing.{row-fits, same-tree}
+use Rattle.table.proofs.Spacing.{same-tree}
 use Rattle.table.proofs.Table.replace.Needs as need
-
-pub write-row-requires : need.write-row-requires
-write-row-requires c κs = record {
-  room = row-fits (c .args .self .now .shape .words) (c .args .k) (c .args .self .now .shape .most) _ (c .pre .row) (c .pre .room .for-sizes);
-  long = c .pre .size;
-}
 
 pub returns : need.returns
 returns c = record {
