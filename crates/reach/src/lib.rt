@@ -23,6 +23,9 @@ pub trait Automaton {
 
     ghost wide: { Self → ℕ };
 
+    // what must be known of it before it is asked for a signature
+    ghost ready: { Self → Type 0 };
+
     // how many letters stand in for all marks, and the mark of each
     ghost alphabet: { Self → ℕ };
 
@@ -37,12 +40,14 @@ pub trait Automaton {
 
     // Writes the signature of a leaf.
     fn leaf(&self, mark: u32, out: &mut [u32])
+        requires ready { ⌜ ready (now self) ⌝ }
         requires mark { ⌜ mark < meaning (now self) .marks ⌝ }
         requires out { ⌜ length (now out) ≡ wide (now self) ⌝ }
         ensures { λ _. ⌜ now (out .exit) ≡ meaning (now (self .entry)) .on-leaf mark ⌝ };
 
     // Writes the signature of a node, from those of its parts.
     fn node(&self, mark: u32, left: &[u32], right: &[u32], out: &mut [u32])
+        requires ready { ⌜ ready (now self) ⌝ }
         requires mark { ⌜ mark < meaning (now self) .marks ⌝ }
         requires left { ⌜ Reached (meaning (now self)) (now left) ⌝ }
         requires right { ⌜ Reached (meaning (now self)) (now right) ⌝ }
@@ -90,6 +95,7 @@ fn offer_leaf<A: Automaton>(
     size: &mut [u32],
     mark: u32,
 ) -> bool
+    requires ready { ⌜ ready (now a) ⌝ }
     requires mark { ⌜ mark < meaning (now a) .marks ⌝ }
     requires searching { ⌜ Searching (meaning (now a)) (now table) ⌝ }
     requires scratch { ⌜ Scratch (wide (now a)) (now key) (now size) (now table) ⌝ }
@@ -114,6 +120,7 @@ fn offer_node<A: Automaton>(
     p: usize,
     q: usize,
 ) -> bool
+    requires ready { ⌜ ready (now a) ⌝ }
     requires mark { ⌜ mark < meaning (now a) .marks ⌝ }
     requires left { ⌜ p < now table .settled ⌝ }
     requires right { ⌜ q < now table .settled ⌝ }
@@ -146,6 +153,7 @@ fn offer_both<A: Automaton>(
     k: usize,
     i: usize,
 ) -> bool
+    requires ready { ⌜ ready (now a) ⌝ }
     requires mark { ⌜ mark < meaning (now a) .marks ⌝ }
     requires left { ⌜ k < now table .settled ⌝ }
     requires right { ⌜ i < now table .settled ⌝ }
@@ -169,6 +177,7 @@ fn offer_pairs<A: Automaton>(
     mark: u32,
     k: usize,
 ) -> bool
+    requires ready { ⌜ ready (now a) ⌝ }
     requires mark { ⌜ mark < meaning (now a) .marks ⌝ }
     requires rank { ⌜ k < now table .settled ⌝ }
     requires searching { ⌜ Searching (meaning (now a)) (now table) ⌝ }
@@ -192,6 +201,7 @@ fn offer_nodes<A: Automaton>(
     size: &mut [u32],
     k: usize,
 ) -> bool
+    requires ready { ⌜ ready (now a) ⌝ }
     requires alphabet { ⌜ Alphabet (meaning (now a)) (alphabet (now a)) (markof (now a)) ⌝ }
     requires rank { ⌜ k < now table .settled ⌝ }
     requires searching { ⌜ Searching (meaning (now a)) (now table) ⌝ }
@@ -210,6 +220,7 @@ fn offer_nodes<A: Automaton>(
 
 // Offers the leaf of every letter.
 fn offer_leaves<A: Automaton>(a: &A, table: &mut Table, key: &mut [u32], size: &mut [u32]) -> bool
+    requires ready { ⌜ ready (now a) ⌝ }
     requires alphabet { ⌜ Alphabet (meaning (now a)) (alphabet (now a)) (markof (now a)) ⌝ }
     requires searching { ⌜ Searching (meaning (now a)) (now table) ⌝ }
     requires scratch { ⌜ Scratch (wide (now a)) (now key) (now size) (now table) ⌝ }
@@ -229,6 +240,7 @@ fn offer_leaves<A: Automaton>(a: &A, table: &mut Table, key: &mut [u32], size: &
 // row is settled, and then every node that it makes possible is offered. `key` and `size` are room for one signature and one
 // size.
 pub fn search<A: Automaton>(a: &A, table: &mut Table, key: &mut [u32], size: &mut [u32]) -> Found
+    requires ready { ⌜ ready (now a) ⌝ }
     requires alphabet { ⌜ Alphabet (meaning (now a)) (alphabet (now a)) (markof (now a)) ⌝ }
     requires room { ⌜ Room (now table) ⌝ }
     requires scratch { ⌜ Scratch (wide (now a)) (now key) (now size) (now table) ⌝ }

@@ -7,12 +7,12 @@ use Prim.Native.Nat.{ℕ, zero, suc, _+_, _-_, _*_, _/_, _%_, _≤_, _<_}
 use native.Mathlib.Omega.{arith}
 use lib.ListN.{length, getD, set, drop, length-append, length-drop}
 use Rattle.std.proofs.shelf.Lists.{append-nil, drop-all, drop-drop, drop-at, getD-set-same, getD-set-other}
-use Rattle.std.proofs.shelf.Elements.{all-getD}
 use Rattle.std.proofs.shelf.Tests.{cases-lt, cases-eq}
 use Rattle.std.specs.declared.option.Option.the-variants.{Some, None}
 use Rattle.model.specs.Trees.{Tree, leaf, node, size, Marked}
-use Rattle.model.specs.Types.{TreeType, kind, leaf-kind, node-kind, node-place, WellFormedType}
+use Rattle.model.specs.Types.{TreeType, kind, leaf-kind, node-kind, WellFormedType}
 use Rattle.model.specs.Rows.{tree-row}
+use Rattle.model.proofs.KindsBelow.{kind-below}
 use Rattle.model.proofs.Order.{size-positive}
 use Rattle.model.proofs.Prefix.{trees-apart, tree-words}
 use Rattle.rows.specs.declared.trees.Item.{Item}
@@ -21,18 +21,9 @@ use Rattle.rows.specs.Numbered.{number, Noted}
 use Rattle.rows.specs.Standing.{Stands, Absent}
 use Rattle.rows.specs.Subtrees.{item-row, ItemAt, SubtreeAt, Subtrees, TreeKnown}
 use Rattle.rows.proofs.Stood.{uncons, both, ends-within}
-use Rattle.rows.proofs.TableEnds.{place-below}
-
--- the kind of a tree is one of the type's
-pub kind-below : (m : ℕ) (t : TreeType) → WellFormedType m t → (x : Tree) → Marked m x → kind t x < t .kinds
-kind-below m t w (leaf a) h = all-getD (λ k. k < t .kinds) (t .leaves) a 0 (omega (arith, w .leaf-count)) (w .leaves-below)
-kind-below m t w (node a l r) h =
-    let in-table : node-place (t .kinds) a (kind t l) (kind t r) < length (t .nodes) =
-    omega (arith, w .node-count, place-below a (kind t l) (kind t r) (t .kinds) m (h .0) (kind-below m t w l (h .1)) (kind-below m t w r (h .2))) in
-    all-getD (λ k. k < t .kinds) (t .nodes) (node-place (t .kinds) a (kind t l) (kind t r)) 0 in-table (w .nodes-below)
 
 pub subtree-below : (t : TreeType) (m : ℕ) (s : List ℕ) {i end k : ℕ} → WellFormedType m t → SubtreeAt t m s i end k → k < t .kinds
-subtree-below t m s w x = omega (arith, x .of-kind, kind-below m t w (x .tree) (x .marked))
+subtree-below t m s w x = omega (arith, x .of-kind, kind-below m t w (x .tree))
 
 pub as-item : (s : List ℕ) (i : ℕ) (x y : Item) → x ≡ y → ItemAt s i (Some x) → ItemAt s i (Some y)
 as-item s i x y e h = subst (λ (z : Item). ItemAt s i (Some z)) e h

@@ -26,6 +26,8 @@ pub impl Automaton for Sums as SumsAutomaton {
 
     ghost wide = { λ s. 1 };
 
+    ghost ready = { λ _. Unit {0} };
+
     ghost alphabet = { λ s. s .marks };
 
     ghost markof = { λ s i. i };
@@ -58,6 +60,8 @@ pub impl Automaton for Towers as TowersAutomaton {
     ghost meaning = { λ s. towers (s .heights) };
 
     ghost wide = { λ s. 1 };
+
+    ghost ready = { λ _. Unit {0} };
 
     ghost alphabet = { λ s. 2 };
 
@@ -112,6 +116,8 @@ pub impl Automaton for Pairs as PairsAutomaton {
     ghost meaning = { λ s. pairs };
 
     ghost wide = { λ s. 1 };
+
+    ghost ready = { λ _. Unit {0} };
 
     ghost alphabet = { λ s. 2 };
 
@@ -173,6 +179,7 @@ fn write_out(table: &Table, out: &mut [u32])
 // Searches in `work`, and writes a row for each class into `out`, in order: signature, mark, the places of the parts counted
 // from one, and the words of the size. How many classes; none where there are more than `most`, or too few words.
 pub fn report<A: Automaton>(a: &A, most: usize, work: &mut [u32], out: &mut [u32]) -> Option<usize>
+    requires ready { ⌜ ready (now a) ⌝ }
     requires width { ⌜ wide (now a) ≡ 1 ⌝ }
     requires alphabet { ⌜ Alphabet (meaning (now a)) (alphabet (now a)) (markof (now a)) ⌝ }
 {

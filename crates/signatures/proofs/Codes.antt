@@ -9,6 +9,7 @@ use lib.Arith.{digits-lt, digits-div, digits-mod}
 use lib.ListN.{length, getD}
 use Rattle.std.specs.Iters.{counting}
 use Rattle.std.proofs.shelf.Counted.{length-map-counting}
+use Rattle.model.proofs.KindsBelow.{kind-below}
 use Rattle.model.specs.Trees.{Tree, leaf, node}
 use Rattle.model.specs.Types.{TreeType, kind, node-place, Below, WellFormedType}
 use Rattle.model.specs.Jobs.{Job, made-by, WellFormedJob}
@@ -45,18 +46,6 @@ digits-same k g h (x ∷ xs) (y ∷ ys) l b d e =
     let first : x ≡ y = s .1 in
     let rest : xs ≡ ys = r .1 in
     (s .0, cc)
-
--- kinds are below their number
-
-read-below : (k : ℕ) (xs : List ℕ) (i : ℕ) → 0 < k → Below k xs → getD xs i 0 < k
-read-below k [] i h b = h
-read-below k (x ∷ xs) zero h b = b .0
-read-below k (x ∷ xs) (suc i) h b = read-below k xs i h (b .1)
-
-kind-below : (m : ℕ) (t : TreeType) → WellFormedType m t → (x : Tree) → kind t x < t .kinds
-kind-below m t w (leaf a) = read-below (t .kinds) (t .leaves) a (omega (arith, w .some-kind)) (w .leaves-below)
-kind-below m t w (node a l r) =
-    read-below (t .kinds) (t .nodes) (node-place (t .kinds) a (kind t l) (kind t r)) (omega (arith, w .some-kind)) (w .nodes-below)
 
 all-below : (k : ℕ) (f : ℕ → ℕ) → ((q : ℕ) → f q < k) → (n a : ℕ) → Below k (map f (counting a n))
 all-below k f h zero a = tt

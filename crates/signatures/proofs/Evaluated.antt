@@ -38,13 +38,13 @@ module _ (a : JobAutomaton) (at deep : ℕ) (l r : List ℕ) where
   leaf-mark b st p e = subst (Evaluable a at deep l r) (as-leaf b st p e) e .bounded
 
   pub leaf-value : (b v : ℕ) → StepAt (a .job .now) at (Some (Leaf b)) → v ≡ leaf-kind (type-in (a .job .now) (a .places .marks) (a .places .to)) b → v < a .places .to .kinds
-    → (p : Pattern) → Evaluable a at deep l r p → Evaluates a at l r p (record { kind = v; end = at + 2 })
+      → (p : Pattern) → Evaluable a at deep l r p → Evaluates a at l r p (record { kind = v; end = at + 2 })
   leaf-value b v st i h p e =
       subst (λ (x : Pattern). Evaluates a at l r x (record { kind = v; end = at + 2 })) (sym (as-leaf b st p e))
       (record { value = i; below = h; ends = refl })
 
   pub part-value : (q v : ℕ) (d : Part) → StepAt (a .job .now) at (Some (Made q d)) → v ≡ part-kind l r q (side-of d)
-    → (p : Pattern) → Evaluable a at deep l r p → Evaluates a at l r p (record { kind = v; end = at + 3 })
+      → (p : Pattern) → Evaluable a at deep l r p → Evaluates a at l r p (record { kind = v; end = at + 3 })
   part-value q v d st i p e =
       let same : p ≡ p-part q (side-of d) = tells (a .job .now) at (Made q d) p _ st (e .begins .words) .0 in
       let e′ = subst (Evaluable a at deep l r) same e in
@@ -81,17 +81,17 @@ module _ (a : JobAutomaton) (at deep : ℕ) (l r : List ℕ) where
       }
 
   pub node-value : (b v u w : ℕ) → StepAt (a .job .now) at (Some (Node b)) → (mid end : ℕ)
-    → ((x : Pattern) → Evaluable a (at + 2) (deep - 1) l r x → Evaluates a (at + 2) l r x (record { kind = u; end = mid }))
-    → ((y : Pattern) → Evaluable a mid (deep - 1) l r y → Evaluates a mid l r y (record { kind = w; end = end }))
-    → v ≡ node-kind (type-in (a .job .now) (a .places .marks) (a .places .to)) b u w → v < a .places .to .kinds
-    → (p : Pattern) → Evaluable a at deep l r p → Evaluates a at l r p (record { kind = v; end = end })
+      → ((x : Pattern) → Evaluable a (at + 2) (deep - 1) l r x → Evaluates a (at + 2) l r x (record { kind = u; end = mid }))
+      → ((y : Pattern) → Evaluable a mid (deep - 1) l r y → Evaluates a mid l r y (record { kind = w; end = end }))
+      → v ≡ node-kind (type-in (a .job .now) (a .places .marks) (a .places .to)) b u w → v < a .places .to .kinds
+      → (p : Pattern) → Evaluable a at deep l r p → Evaluates a at l r p (record { kind = v; end = end })
   node-value b v u w st mid end f g i h p e =
       let n = inner b st p e in
       let fx = f (n .first) (n .first-ready) in
       let gy = g (n .second) (subst (λ (z : ℕ). Evaluable a z (deep - 1) l r (n .second)) (sym (fx .ends)) (n .second-ready)) in
       let t = type-in (a .job .now) (a .places .marks) (a .places .to) in
       let kinds : node-kind t b u w ≡ node-kind t b (pattern-kind t (part-kind l r) (n .first)) (pattern-kind t (part-kind l r) (n .second)) =
-          same-kinds t b (fx .value) (gy .value) in
+      same-kinds t b (fx .value) (gy .value) in
       subst (λ (x : Pattern). Evaluates a at l r x (record { kind = v; end = end })) (sym (n .same))
       (record {
         value = i ∙ kinds;

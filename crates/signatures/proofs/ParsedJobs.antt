@@ -32,7 +32,7 @@ parse-row (suc n) (p-node a x y) rest h =
     (joined (parse-row n x (pattern-row y ++ rest) (omega arith)) (parse-row n y rest (omega arith)))
   where
     joined : {u : Parsed} → u ≡ record { pattern = x; rest = pattern-row y ++ rest } → parse n (pattern-row y ++ rest) ≡ record { pattern = y; rest = rest }
-      → _≡_ {A = Parsed} (record { pattern = p-node a (u .pattern) (parse n (u .rest) .pattern); rest = parse n (u .rest) .rest }) (record { pattern = p-node a x y; rest = rest })
+        → _≡_ {A = Parsed} (record { pattern = p-node a (u .pattern) (parse n (u .rest) .pattern); rest = parse n (u .rest) .rest }) (record { pattern = p-node a x y; rest = rest })
     joined {u} e f =
         ap (λ (w : Parsed). record { pattern = p-node a (w .pattern) (parse n (w .rest) .pattern); rest = parse n (w .rest) .rest }) e
         ∙ ap (λ (w : Parsed). record { pattern = p-node a x (w .pattern); rest = w .rest }) f
@@ -50,13 +50,13 @@ getD-counting a (suc n) (suc i) h = getD-counting (a + 1) n i (omega arith) ∙ 
 patterns-found : (s index : List ℕ) (first count : ℕ) (ps : List Pattern) → length ps ≡ count → All Shallow ps → Indexed s index first ps → ps ≡ patterns-in s index first count
 patterns-found s index first count ps l shallow f =
     ext-getD (p-leaf 0) ps (patterns-in s index first count) (l ∙ sym (length-map (counting 0 count) _ ∙ length-counting 0 count)) (λ i h.
-        let inside : i < count = omega arith in
-        let st = f i h in
-        let p = getD ps i (p-leaf 0) in
-        let parsed : parse 64 (drop (number index (first + i)) s) .pattern ≡ p = ap (λ (w : List ℕ). parse 64 w .pattern) (st .words) ∙ ap (λ (w : Parsed). w .pattern) (parse-row 64 p _ (all-getD Shallow ps i (p-leaf 0) h shallow)) in
-        let place : getD (counting 0 count) i 0 ≡ i = getD-counting 0 count i inside ∙ omega arith in
-        sym (getD-map (λ k. parse 64 (drop (number index (first + k)) s) .pattern) (counting 0 count) i 0 (p-leaf 0) (omega (arith, length-counting 0 count))
-        ∙ ap (λ (k : ℕ). parse 64 (drop (number index (first + k)) s) .pattern) place ∙ parsed))
+    let inside : i < count = omega arith in
+    let st = f i h in
+    let p = getD ps i (p-leaf 0) in
+    let parsed : parse 64 (drop (number index (first + i)) s) .pattern ≡ p = ap (λ (w : List ℕ). parse 64 w .pattern) (st .words) ∙ ap (λ (w : Parsed). w .pattern) (parse-row 64 p _ (all-getD Shallow ps i (p-leaf 0) h shallow)) in
+    let place : getD (counting 0 count) i 0 ≡ i = getD-counting 0 count i inside ∙ omega arith in
+    sym (getD-map (λ k. parse 64 (drop (number index (first + k)) s) .pattern) (counting 0 count) i 0 (p-leaf 0) (omega (arith, length-counting 0 count))
+    ∙ ap (λ (k : ℕ). parse 64 (drop (number index (first + k)) s) .pattern) place ∙ parsed))
 
 -- the turn of a known job
 pub turn-found : (a : JobAutomaton) (k : JobKnown (a .job .now) (a .index .now) (a .places)) → k .turns ≡ turn-in a

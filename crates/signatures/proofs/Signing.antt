@@ -23,10 +23,14 @@ use Rattle.rows.specs.Numbered.{number}
 use Rattle.rows.specs.Jobs.{Begins, Indexed, JobKnown}
 use Rattle.rows.specs.Tables.{type-in}
 use Rattle.signatures.specs.declared.evaluate.JobAutomaton.{JobAutomaton}
-use Rattle.signatures.specs.Signatures.{pattern-kind, state-kind, part-kind, no-part-kind}
-use Rattle.signatures.specs.Parsing.{turn-in}
+use Rattle.signatures.specs.Signatures.{signature, pattern-kind, state-kind, part-kind, no-part-kind, job-automaton}
+use Rattle.signatures.specs.Parsing.{turn-in, job-of}
 use Rattle.signatures.specs.Evaluating.{Bounded, Evaluable, Signed, Signable, item-signature, item-pattern, item-mark, item-place}
-use Rattle.signatures.proofs.ParsedJobs.{turn-found, length-counting}
+use Rattle.automata.specs.Automata.{Reached}
+use Rattle.model.specs.Jobs.{made-by}
+use Rattle.model.proofs.KindsBelow.{kind-below}
+use Rattle.signatures.proofs.Computing.{computed, kind-of-state}
+use Rattle.signatures.proofs.ParsedJobs.{turn-found, rows-found, length-counting}
 
 -- a pattern without parts has one kind, whatever stands for parts
 no-parts-same : (t : TreeType) (m n : ℕ) (f g : ℕ → Side → ℕ) (p : Pattern) → WellFormedPattern m n false p → pattern-kind t f p ≡ pattern-kind t g p
@@ -42,8 +46,8 @@ bounded m n k parts f (p-part q s) w h = h (w .1) q s (w .0)
 module _ (a : JobAutomaton) (k : JobKnown (a .job .now) (a .index .now) (a .places)) where
   -- one pattern of the turn, at its place
   ready : (parts : Bool) (t : Turn) (ps : List Pattern) (first i at : ℕ) (l r : List ℕ) → Indexed (a .job .now) (a .index .now) first ps → All (WellFormedPattern (a .places .marks) (a .places .turn .states) parts) ps → All Shallow ps
-    → i < length ps → at ≡ number (a .index .now) (first + i) → (parts ≡ true → (q : ℕ) (s : Side) → q < a .places .turn .states → part-kind l r q s < a .places .to .kinds)
-    → Evaluable a at 64 l r (getD ps i (p-leaf 0))
+      → i < length ps → at ≡ number (a .index .now) (first + i) → (parts ≡ true → (q : ℕ) (s : Side) → q < a .places .turn .states → part-kind l r q s < a .places .to .kinds)
+      → Evaluable a at 64 l r (getD ps i (p-leaf 0))
   ready parts t ps first i at l r places formed shallow h e kinds = record {
     begins = subst (λ (z : ℕ). Begins (a .job .now) z (pattern-row (getD ps i (p-leaf 0)))) (sym e) (places i h);
     shallow = all-getD Shallow ps i (p-leaf 0) h shallow;
@@ -82,7 +86,7 @@ module _ (a : JobAutomaton) (k : JobKnown (a .job .now) (a .index .now) (a .plac
 
   -- the kinds of a signature, from the second word on
   pub item-kind : (item : Item) (l r : List ℕ) (q : ℕ) → Signable a item l r → q < a .places .turn .states
-    → getD (item-signature a item l r) (q + 1) 0 ≡ pattern-kind (type-in (a .job .now) (a .places .marks) (a .places .to)) (part-kind l r) (item-pattern a item q)
+      → getD (item-signature a item l r) (q + 1) 0 ≡ pattern-kind (type-in (a .job .now) (a .places .marks) (a .places .to)) (part-kind l r) (item-pattern a item q)
   item-kind (Leaf b) l r q s h =
       let t = type-in (a .job .now) (a .places .marks) (a .places .to) in
       let w = k .rows .well-formed .turns in
@@ -90,8 +94,8 @@ module _ (a : JobAutomaton) (k : JobKnown (a .job .now) (a .index .now) (a .plac
       let in-list : i < length (k .turns .on-leaf) = omega (arith, w .leaf-count, inside q b h s) in
       let formed = all-getD (WellFormedPattern (a .places .marks) (k .turns .states) false) (k .turns .on-leaf) i (p-leaf 0) in-list (w .leaf-patterns) in
       let same : pattern-kind t (no-part-kind t) (item-pattern a (Leaf b) q) ≡ pattern-kind t (part-kind l r) (item-pattern a (Leaf b) q) =
-          subst (λ (u : Turn). pattern-kind t (no-part-kind t) (getD (u .on-leaf) i (p-leaf 0)) ≡ pattern-kind t (part-kind l r) (getD (u .on-leaf) i (p-leaf 0))) (turn-found a k)
-          (no-parts-same t (a .places .marks) (k .turns .states) (no-part-kind t) (part-kind l r) (getD (k .turns .on-leaf) i (p-leaf 0)) formed) in
+      subst (λ (u : Turn). pattern-kind t (no-part-kind t) (getD (u .on-leaf) i (p-leaf 0)) ≡ pattern-kind t (part-kind l r) (getD (u .on-leaf) i (p-leaf 0))) (turn-found a k)
+      (no-parts-same t (a .places .marks) (k .turns .states) (no-part-kind t) (part-kind l r) (getD (k .turns .on-leaf) i (p-leaf 0)) formed) in
       ap (λ (i : ℕ). getD (item-signature a (Leaf b) l r) i 0) (add-one q) ∙ getD-map-counting (λ q. pattern-kind t (no-part-kind t) (item-pattern a (Leaf b) q)) 0 (a .places .turn .states) q q 0 h (omega arith) ∙ same
   item-kind (Node b) l r q s h =
       let t = type-in (a .job .now) (a .places .marks) (a .places .to) in
@@ -103,9 +107,21 @@ module _ (a : JobAutomaton) (k : JobKnown (a .job .now) (a .index .now) (a .plac
 
   -- words that are those of the signature, one by one
   pub signed-all : (item : Item) (l r out : List ℕ) → length out ≡ a .places .turn .states + 1 → getD out 0 0 ≡ getD (item-signature a item l r) 0 0
-    → ((q : ℕ) → q < a .places .turn .states → getD out (q + 1) 0 ≡ getD (item-signature a item l r) (q + 1) 0) → out ≡ item-signature a item l r
+      → ((q : ℕ) → q < a .places .turn .states → getD out (q + 1) 0 ≡ getD (item-signature a item l r) (q + 1) 0) → out ≡ item-signature a item l r
   signed-all item l r out n e f = ext-getD 0 out (item-signature a item l r) (n ∙ sym (signature-long item l r)) each
     where
       each : (i : ℕ) → i < length out → getD out i 0 ≡ getD (item-signature a item l r) i 0
       each zero h = e
       each (suc i) h = ap (λ (z : ℕ). getD out z 0) (sym (add-one i)) ∙ f i (omega arith) ∙ ap (λ (z : ℕ). getD (item-signature a item l r) z 0) (add-one i)
+
+  -- a signature that some tree has
+  pub reached-signed : (l : List ℕ) → Reached (job-automaton (job-of a)) l → Signed a l
+  reached-signed l x =
+      let j = job-of a in
+      let w = rows-found a k .well-formed in
+      let is : l ≡ signature j (x .tree) = x .signed ∙ computed j w (x .tree) in
+      subst (Signed a) (sym is)
+      (record {
+        first = kind-below (j .marks) (j .from) (w .first) (x .tree);
+        made = λ q h. omega (arith, kind-of-state j (x .tree) q h, kind-below (j .marks) (j .to) (w .second) (made-by j (x .tree) q));
+      })

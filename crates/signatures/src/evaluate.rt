@@ -6,9 +6,11 @@ ghost use lib.ListN.{length, getD};
 ghost use Rattle.model.specs.Turns.{Pattern};
 ghost use Rattle.rows.specs.Jobs.{JobKnown};
 ghost use Rattle.rows.specs.Stepwise.{side-of};
-ghost use Rattle.signatures.specs.Signatures.{part-kind};
+ghost use Rattle.signatures.specs.Parsing.{job-of};
+ghost use Rattle.signatures.specs.Signatures.{job-automaton, part-kind};
 ghost use Rattle.rows.specs.Numbered.{number};
 ghost use Rattle.signatures.specs.Evaluating.{Evaluable, Evaluates, Signable, item-mark, item-place, item-signature};
+use reach::Automaton;
 use rows::jobs::JobPlaces;
 use rows::patterns::MOST_DEEP;
 use rows::steps::Part;
@@ -35,7 +37,11 @@ pub struct Valued {
 fn word(signature: &[u32], at: usize) -> u32
     ensures { λ r. ⌜ r ≡ getD (now (signature .entry)) at 0 ⌝ }
 {
-    if at < signature.len() { signature[at] } else { 0 }
+    if at < signature.len() {
+        signature[at]
+    } else {
+        0
+    }
 }
 
 // The kind that a part has for a state, by the signatures of both parts.
@@ -60,12 +66,21 @@ fn evaluate(a: JobAutomaton, at: usize, deep: u32, left: &[u32], right: &[u32]) 
         return unreachable();
     };
     match step {
-        Step::Leaf(mark) => Valued { kind: to.leaf_kind(a.job, marks, mark), end: at + 2 },
-        Step::Made(state, part) => Valued { kind: kind_of_part(left, right, part, state), end: at + 3 },
+        Step::Leaf(mark) => Valued {
+            kind: to.leaf_kind(a.job, marks, mark),
+            end: at + 2,
+        },
+        Step::Made(state, part) => Valued {
+            kind: kind_of_part(left, right, part, state),
+            end: at + 3,
+        },
         Step::Node(mark) => {
             let x = evaluate(a, at + 2, deep - 1, left, right);
             let y = evaluate(a, x.end, deep - 1, left, right);
-            Valued { kind: to.node_kind(a.job, marks, mark, x.kind, y.kind), end: y.end }
+            Valued {
+                kind: to.node_kind(a.job, marks, mark, x.kind, y.kind),
+                end: y.end,
+            }
         }
     }
 }
@@ -79,7 +94,13 @@ fn first_kind(a: JobAutomaton, item: Item, left: &[u32], right: &[u32]) -> u32
     let from = a.places.from;
     match item {
         Item::Leaf(mark) => from.leaf_kind(a.job, a.places.marks, mark),
-        Item::Node(mark) => from.node_kind(a.job, a.places.marks, mark, word(left, 0), word(right, 0)),
+        Item::Node(mark) => from.node_kind(
+            a.job,
+            a.places.marks,
+            mark,
+            word(left, 0),
+            word(right, 0),
+        ),
     }
 }
 
@@ -107,5 +128,33 @@ fn sign(a: JobAutomaton, item: Item, left: &[u32], right: &[u32], out: &mut [u32
     for q in 0..a.places.turn.states {
         let value = evaluate(a, pattern_of(a, item, q), MOST_DEEP, left, right);
         out[q as usize + 1] = value.kind;
+    }
+}
+
+pub impl<'a> Automaton for JobAutomaton<'a> as JobSignatures {
+    ghost meaning = { λ a. job-automaton (job-of a) };
+
+    ghost wide = { λ a. a .places .turn .states + 1 };
+
+    ghost ready = { λ a. JobKnown (a .job .now) (a .index .now) (a .places) };
+
+    ghost alphabet = { λ a. a .places .marks };
+
+    ghost markof = { λ a letter. letter };
+
+    fn letters(&self) -> u32 {
+        self.places.marks
+    }
+
+    fn mark(&self, letter: u32) -> u32 {
+        letter
+    }
+
+    fn leaf(&self, mark: u32, out: &mut [u32]) {
+        sign(*self, Item::Leaf(mark), &[], &[], out);
+    }
+
+    fn node(&self, mark: u32, left: &[u32], right: &[u32], out: &mut [u32]) {
+        sign(*self, Item::Node(mark), left, right, out);
     }
 }

@@ -4,6 +4,7 @@ use Rattle.reach.proofs.offer_both.Needs as need
 
 pub offer-node-requires-2 : need.offer-node-requires-2
 offer-node-requires-2 g c κs = record {
+  ready = c .pre .ready;
   mark = c .pre .mark;
   left = omega (arith, c .offer-node .ensures .kept .settled, c .pre .right);
   right = omega (arith, c .offer-node .ensures .kept .settled, c .pre .left);

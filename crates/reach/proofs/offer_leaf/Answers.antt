@@ -4,7 +4,7 @@ use Rattle.model.specs.Trees.{leaf}
 use Rattle.reach.proofs.offer_leaf.Needs as need
 
 pub leaf-requires : need.leaf-requires
-leaf-requires g c κs = record { mark = c .pre .mark; out = omega (arith, c .pre .scratch) }
+leaf-requires g c κs = record { ready = c .pre .ready; mark = c .pre .mark; out = omega (arith, c .pre .scratch) }
 
 pub find-k-requires : need.find-k-requires
 find-k-requires g c κs = record { room = c .pre .searching .state .room; chains = c .pre .searching .state .chains }

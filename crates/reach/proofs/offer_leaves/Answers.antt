@@ -8,6 +8,7 @@ loop-letter-holds g c = (kept-none _, no-step _ _ _ (λ S us i h. absurd (omega 
 
 pub offer-leaf-requires : need.offer-leaf-requires
 offer-leaf-requires g c κs = record {
+  ready = c .pre .ready;
   mark = omega (arith, c .mark-mark .ensures, c .pre .alphabet .marks-below (c .loop-letter .letter) (omega (arith, c .letters-letter-end .ensures)));
   searching = goes-on _ _ _ _ (c .loop-letter .inv .1) (c .pre .searching);
   scratch = scratch-same _ _ _ _ _ _ _ (c .pre .scratch) (omega arith) (omega arith) (c .loop-letter .inv .0 .shape);

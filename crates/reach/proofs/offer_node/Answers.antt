@@ -34,6 +34,7 @@ pub node-requires : need.node-requires
 node-requires g c κs =
     let s = c .pre .searching .state in
     record {
+      ready = c .pre .ready;
       mark = c .pre .mark;
       left = row-reached _ _ _ s (c .args .p) (c .pre .left) _ _ (c .ranked-left .ensures) (c .signature .ensures .is);
       right = row-reached _ _ _ s (c .args .q) (c .pre .right) _ _ (c .ranked-right .ensures) (c .signature-2 .ensures .is);

@@ -7,6 +7,7 @@ loop-i-holds g c = (kept-none _, no-step _ _ _ (λ S us j h. absurd (omega arith
 
 pub offer-both-requires : need.offer-both-requires
 offer-both-requires g c κs = record {
+  ready = c .pre .ready;
   mark = c .pre .mark;
   left = omega (arith, c .loop-i .inv .0 .settled, c .pre .rank);
   right = omega (arith, c .loop-i .inv .0 .settled, c .pre .rank);
@@ -28,6 +29,7 @@ loop-i-again g c = (
 
 pub offer-node-requires : need.offer-node-requires
 offer-node-requires g c κs = record {
+  ready = c .pre .ready;
   mark = c .pre .mark;
   left = omega (arith, c .loop-i .inv .0 .settled, c .pre .rank);
   right = omega (arith, c .loop-i .inv .0 .settled, c .pre .rank);

@@ -8,6 +8,7 @@ use Rattle.reach.proofs.search.Needs as need
 
 pub offer-leaves-requires : need.offer-leaves-requires
 offer-leaves-requires g c κs = record {
+  ready = c .pre .ready;
   alphabet = c .pre .alphabet;
   searching = record { settled-list = []; state = no-rows _ _ (c .reset .ensures .empty) (c .reset .ensures .room) (c .reset .ensures .chains) };
   scratch = scratch-same _ _ _ _ _ _ _ (c .pre .scratch) refl refl (c .reset .ensures .shape);
@@ -38,6 +39,7 @@ pub offer-nodes-requires : need.offer-nodes-requires
 offer-nodes-requires g c κs =
     let u = c .loop-k .inv .1 in
     record {
+      ready = c .pre .ready;
       alphabet = c .pre .alphabet;
       rank = omega (arith, c .settle .ensures .settles .settled-is);
       searching = settled-searching _ _ u (c .settle .last .self) (c .in-Some .k) (c .in-Some .ensures tt) (c .settle .ensures .settles) (c .settle .ensures .room) (c .settle .ensures .chains (u .state .chains));

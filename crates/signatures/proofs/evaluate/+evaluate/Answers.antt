@@ -32,8 +32,7 @@ sub-deep-in-Node t c = inner (c .args .a) (c .args .at) (c .args .deep) (c .args
 pub evaluate-y-requires : need.evaluate-y-requires
 evaluate-y-requires t c κs =
     let n = inner (c .args .a) (c .args .at) (c .args .deep) (c .args .left .now) (c .args .right .now) (c .in-Node .mark) (as-step _ _ _ _ (c .in-Node .is) (c .in-Some .ensures tt)) (c .pre .stands .0) (c .pre .stands .1) in
-    let x = c .evaluate-x .ensures (n .first) (n .first-ready) in
-    (
+    let x = c .evaluate-x .ensures (n .first) (n .first-ready) in (
       omega (arith, c .measured, n .deeper),
       (c .pre .known, (n .second, subst (λ (z : ℕ). Evaluable (c .args .a) z (c .args .deep - 1) (c .args .left .now) (c .args .right .now) (n .second)) (sym (x .ends)) (n .second-ready))),
     )

@@ -24,12 +24,11 @@ loop-q-again c =
     let p = item-pattern (c .args .a) (c .args .item) q in
     let ready = item-ready (c .args .a) (c .pre .known) (c .args .item) (c .args .left .now) (c .args .right .now) q (c .pattern-of .result) (c .pre .signable) (omega arith) (c .pattern-of .ensures) in
     let value = c .evaluate-value .ensures p ready .value in
-    let other : 0 ≢ q + 1 = omega arith in
-    (
+    let other : 0 ≢ q + 1 = omega arith in (
       getD-set-other out (q + 1) 0 v 0 other ∙ c .loop-q .inv .0,
       below-more _ q
-      (λ i h. let ne : i + 1 ≢ q + 1 = omega arith in getD-set-other out (q + 1) (i + 1) v 0 ne ∙ c .loop-q .inv .1 i h)
-      (getD-set-same out (q + 1) v 0 (omega (arith, length-set (c .args .out .now) 0 (c .first-kind .result))) ∙ value ∙ sym (item-kind (c .args .a) (c .pre .known) (c .args .item) (c .args .left .now) (c .args .right .now) q (c .pre .signable) (omega arith))),
+          (λ i h. let ne : i + 1 ≢ q + 1 = omega arith in getD-set-other out (q + 1) (i + 1) v 0 ne ∙ c .loop-q .inv .1 i h)
+          (getD-set-same out (q + 1) v 0 (omega (arith, length-set (c .args .out .now) 0 (c .first-kind .result))) ∙ value ∙ sym (item-kind (c .args .a) (c .pre .known) (c .args .item) (c .args .left .now) (c .args .right .now) q (c .pre .signable) (omega arith))),
     )
 
 pub returns : need.returns
