@@ -1,18 +1,18 @@
 // The section of a type: its kinds, a rule for each kind of leaf and node, and the kinds that are wanted.
-use crate::lexer::Keyword;
-use crate::lexer::TokenKind;
-use crate::lexer::TokenKindPartialEq;
-use crate::mistakes::Fault;
-use crate::mistakes::FaultFromAlloc;
-use crate::mistakes::FaultFromRefused;
-use crate::mistakes::Mistake;
-use crate::mistakes::Sort;
-use crate::naming::Names;
 use crate::parser::Parser;
 use crate::table::Table;
 use crate::table::crossed;
 use std::alloc::AllocError;
 use std::alloc::Global;
+use tokens::Fault;
+use tokens::FaultFromAlloc;
+use tokens::FaultFromRefused;
+use tokens::Keyword;
+use tokens::Mistake;
+use tokens::Names;
+use tokens::Sort;
+use tokens::TokenKind;
+use tokens::TokenKindPartialEq;
 ghost use Prim.Native.Nat.{_<_, _≤_};
 ghost use lib.ListN.{length};
 ghost use Rattle.std.specs.Vec.{made};
@@ -67,7 +67,7 @@ impl<'a> Parser<'a> {
         self.advance()?;
         let wanted = self.listed(&automaton.kinds, "a kind or the end of the line")?;
         if self.lexer.kind() != TokenKind::CloseBrace {
-            return Err(self.unexpected("`}`"));
+            return Err(self.lexer.unexpected(self.heap, "`}`"));
         }
         self.automaton_row(&automaton, &wanted, words)?;
         self.advance()?;
@@ -88,14 +88,17 @@ impl<'a> Parser<'a> {
         let cases = match self.lexer.kind() {
             TokenKind::Arrow => crossed(self.heap, 0, &[0], 1, &marks)?,
             TokenKind::OpenParen => self.node_cases(automaton, &marks)?,
-            _ => return Err(self.unexpected("`->` or `(`")),
+            _ => return Err(self.lexer.unexpected(self.heap, "`->` or `(`")),
         };
         self.expect(TokenKind::Arrow)?;
         let kind = self.pick(&automaton.kinds)?;
         if let Some(clash) = automaton.results.clash(&cases) {
             let case = automaton.case_name(self.heap, clash.case)?;
             let line = self.lexer.place(clash.start).line;
-            return Err(self.fault_at(start, Mistake::CaseTwice { case, line }));
+            return Err(
+                self.lexer
+                    .fault_at(start, Mistake::CaseTwice { case, line }),
+            );
         }
         automaton.results.add(&cases, start, kind)?;
         Ok(())
@@ -130,7 +133,7 @@ impl<'a> Parser<'a> {
         for case in 0..automaton.results.len() {
             let Some(kind) = automaton.results.result(case) else {
                 let case = automaton.case_name(self.heap, case)?;
-                return Err(self.fault(Mistake::CaseMissing { case }));
+                return Err(self.lexer.fault(Mistake::CaseMissing { case }));
             };
             words.push(*kind)?;
         }

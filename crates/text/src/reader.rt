@@ -1,15 +1,16 @@
 // Reads a whole job.
-use crate::lexer::Keyword;
-use crate::lexer::TokenKind;
-use crate::lexer::TokenKindPartialEq;
-use crate::mistakes::Fault;
-use crate::mistakes::FaultFromAlloc;
-use crate::mistakes::FaultFromRefused;
-use crate::mistakes::Mistake;
-use crate::mistakes::Sort;
-use crate::naming::Names;
 use crate::parser::Parser;
 use std::alloc::Global;
+use tokens::Fault;
+use tokens::FaultFromAlloc;
+use tokens::FaultFromRefused;
+use tokens::Keyword;
+use tokens::Mistake;
+use tokens::Names;
+use tokens::Sort;
+use tokens::TokenKind;
+use tokens::TokenKindPartialEq;
+use tokens::shown;
 
 // A job: what its words say, and what its marks, kinds and states are called.
 #[derive(Drop)]
@@ -26,10 +27,10 @@ pub struct Job {
 fn expect_end(parser: &Parser<'_>) -> Result<(), Fault> {
     match parser.lexer.kind() {
         TokenKind::End => Ok(()),
-        TokenKind::Strange => Err(parser.unexpected("the end of the text")),
+        TokenKind::Strange => Err(parser.lexer.unexpected(parser.heap, "the end of the text")),
         _ => {
-            let found = parser.string(parser.lexer.word())?;
-            Err(parser.fault(Mistake::Behind { found }))
+            let found = shown(parser.heap, parser.lexer.word())?;
+            Err(parser.lexer.fault(Mistake::Behind { found }))
         }
     }
 }

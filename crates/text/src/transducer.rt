@@ -1,19 +1,19 @@
 // The section of a turn: its states, and for each state and mark a pattern for leaves and one for nodes.
-use crate::lexer::Keyword;
-use crate::lexer::TokenKind;
-use crate::lexer::TokenKindPartialEq;
-use crate::mistakes::Fault;
-use crate::mistakes::FaultFromAlloc;
-use crate::mistakes::FaultFromRefused;
-use crate::mistakes::Mistake;
-use crate::mistakes::Sort;
-use crate::naming::Names;
 use crate::parser::Parser;
-use crate::parser::Word;
 use crate::table::Table;
 use crate::table::crossed;
 use std::alloc::AllocError;
 use std::alloc::Global;
+use tokens::Fault;
+use tokens::FaultFromAlloc;
+use tokens::FaultFromRefused;
+use tokens::Keyword;
+use tokens::Mistake;
+use tokens::Names;
+use tokens::Sort;
+use tokens::TokenKind;
+use tokens::TokenKindPartialEq;
+use tokens::Word;
 ghost use Prim.Native.Nat.{_<_, _≤_};
 ghost use Rattle.std.specs.Vec.{made};
 ghost use Rattle.text.specs.Progress.{left};
@@ -135,7 +135,10 @@ impl<'a> Parser<'a> {
         if let Some(clash) = transducer.patterns.clash(&cases) {
             let case = transducer.case_name(self.heap, clash.case)?;
             let line = self.lexer.place(clash.start).line;
-            return Err(self.fault_at(start, Mistake::CaseTwice { case, line }));
+            return Err(
+                self.lexer
+                    .fault_at(start, Mistake::CaseTwice { case, line }),
+            );
         }
         transducer.patterns.add(&cases, start, pattern)?;
         Ok(())
@@ -155,7 +158,7 @@ impl<'a> Parser<'a> {
                 self.expect(TokenKind::CloseParen)?;
                 Ok(true)
             }
-            _ => Err(self.unexpected("`(` or `)`")),
+            _ => Err(self.lexer.unexpected(self.heap, "`(` or `)`")),
         }
     }
 
@@ -174,7 +177,7 @@ impl<'a> Parser<'a> {
     fn mark(&self, head: Option<Word<'a>>, marks: &Names) -> Result<Piece, Fault> {
         match head {
             Some(word) => {
-                let mark = self.resolve(word, marks)?;
+                let mark = word.resolve(self.heap, &self.lexer, marks)?;
                 Ok(Piece::Word(mark))
             }
             None => Ok(Piece::SameMark),
@@ -191,7 +194,7 @@ impl<'a> Parser<'a> {
         ensures { λ r. ⌜ made r (λ _. left (now (self .exit)) < left (now (self .entry))) ⌝ }
     {
         if depth_left == 0 {
-            return Err(self.fault(Mistake::Deep));
+            return Err(self.lexer.fault(Mistake::Deep));
         }
         let head = self.head()?;
         if self.lexer.kind() != TokenKind::OpenParen {
@@ -226,12 +229,12 @@ impl<'a> Parser<'a> {
         ensures { λ r. ⌜ made r (λ _. left (now (self .exit)) < left (now (self .entry))) ⌝ }
     {
         let Some(word) = head else {
-            return Err(self.unexpected("a pattern"));
+            return Err(self.lexer.unexpected(self.heap, "a pattern"));
         };
         if !scope.is_node {
-            return Err(self.fault_at(word.offset, Mistake::PartOfLeaf));
+            return Err(self.lexer.fault_at(word.offset, Mistake::PartOfLeaf));
         }
-        let state = self.resolve(word, scope.states)?;
+        let state = word.resolve(self.heap, &self.lexer, scope.states)?;
         pattern.push(Piece::Word(2))?;
         pattern.push(Piece::Word(state))?;
         pattern.push(Piece::Word(side))?;
@@ -250,7 +253,7 @@ impl<'a> Parser<'a> {
         for case in 0..transducer.patterns.len() {
             let Some(pattern) = transducer.patterns.result(case) else {
                 let case = transducer.case_name(self.heap, case)?;
-                return Err(self.fault(Mistake::CaseMissing { case }));
+                return Err(self.lexer.fault(Mistake::CaseMissing { case }));
             };
             write_pattern(pattern, (case % count) as u32, words)?;
         }
