@@ -8,6 +8,7 @@ mod transducer;
 
 pub use reader::Job;
 pub use reader::read_job;
+pub use reader::read_job_within;
 pub use tokens::Fault;
 pub use tokens::FaultDebug;
 pub use tokens::Mistake;

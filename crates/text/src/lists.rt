@@ -29,6 +29,18 @@ fn all(heap: Global, names: &Names) -> Result<Vec<u32>, AllocError> {
 }
 
 impl<'a> Parser<'a> {
+    // The beginning of a section: its keyword, a brace, and the things that it declares.
+    pub fn section(
+        &mut self,
+        keyword: Keyword,
+        declares: Keyword,
+        sort: Sort,
+    ) -> Result<Names, Fault> {
+        self.expect(TokenKind::Reserved(keyword))?;
+        self.expect(TokenKind::OpenBrace)?;
+        self.declared(declares, sort)
+    }
+
     // The things that a keyword declares: their number, or their names.
     pub fn declared(&mut self, keyword: Keyword, sort: Sort) -> Result<Names, Fault> {
         self.expect(TokenKind::Reserved(keyword))?;

@@ -1,8 +1,10 @@
 // What all the sections of a job are read with: tokens, names and lists of names.
+use std::alloc::AllocError;
 use std::alloc::Global;
 use tokens::Fault;
 use tokens::Keyword;
 use tokens::Lexer;
+use tokens::Mistake;
 use tokens::Names;
 use tokens::Sort;
 use tokens::TokenKind;
@@ -57,12 +59,15 @@ fn one_of(sort: Sort) -> &'static str {
 pub struct Parser<'a> {
     pub heap: Global,
     pub lexer: Lexer<'a>,
+    // The job has at most so many words.
+    pub most: usize,
 }
 
 impl<'a> Parser<'a> {
-    pub fn new(heap: Global, text: &'a str) -> Parser<'a> {
+    pub fn new(heap: Global, text: &'a str, most: usize) -> Parser<'a> {
         Parser {
             heap,
+            most,
             lexer: Lexer::new(text.as_bytes()),
         }
     }
@@ -82,11 +87,33 @@ impl<'a> Parser<'a> {
         ensures { λ r. ⌜ made r (λ _. left (now (self .exit)) < left (now (self .entry))) ⌝ }
     {
         if self.lexer.kind() == kind {
-            self.advance()?;
-            Ok(())
+            self.advance()
         } else {
             Err(self.lexer.unexpected(self.heap, spelled(kind)))
         }
+    }
+
+    // Whether there may be so many words more.
+    pub fn reserve(&self, more: usize, words: &[u32]) -> Result<(), Fault> {
+        if words.len().saturating_add(more) > self.most {
+            return Err(self.lexer.fault(Mistake::TooLong { most: self.most }));
+        }
+        Ok(())
+    }
+
+    // The fault of a rule that gives a case which an earlier one gives.
+    pub fn given_twice(
+        &self,
+        start: usize,
+        earlier: usize,
+        case: Result<String, AllocError>,
+    ) -> Fault {
+        let Ok(case) = case else {
+            return Fault::Memory;
+        };
+        let line = self.lexer.place(earlier).line;
+        self.lexer
+            .fault_at(start, Mistake::CaseTwice { case, line })
     }
 
     // A name or a number.

@@ -1,0 +1,98 @@
+// The lines of an input, which is read in blocks.
+use crate::buffers::BLOCK_BYTES;
+use crate::buffers::MOST_LINE_BYTES;
+use std::alloc::AllocError;
+use std::alloc::Global;
+use std::io;
+use std::io::Read;
+
+// What stands in a line.
+#[derive(Clone, Copy)]
+pub enum Line {
+    Whole,
+    // It has more bytes than there is room for, and is skipped.
+    TooLong,
+    // There is no line: the input has ended.
+    End,
+}
+
+#[derive(Drop)]
+pub struct Lines<R: Read + Drop> {
+    input: R,
+    block: Vec<u8>,
+    // What is yet to be taken of the block: from `start`, up to `end`.
+    start: usize,
+    end: usize,
+}
+
+impl<R: Read + Drop> Lines<R> {
+    pub fn new(heap: Global, input: R) -> Result<Lines<R>, AllocError> {
+        let block = vec![in heap; 0u8; BLOCK_BYTES]?;
+        Ok(Lines {
+            input,
+            block,
+            start: 0,
+            end: 0,
+        })
+    }
+
+    // Reads a block if the last one is used up. False at the end of the input.
+    fn fill(&mut self) -> io::Result<bool> {
+        if self.start < self.end {
+            return Ok(true);
+        }
+        self.start = 0;
+        self.end = 0;
+        self.end = self.input.read(self.block.as_mut_slice())?;
+        Ok(self.end > 0)
+    }
+
+    // Adds what the block has of the line, and says whether the line ends in it.
+    fn take(&mut self, line: &mut Vec<u8>, fits: &mut bool) -> Result<bool, AllocError> {
+        let rest = self.block.get(self.start..self.end).unwrap_or(&[]);
+        let mut len = rest.len();
+        let mut ends = false;
+        for (i, byte) in rest.iter().enumerate() {
+            if *byte == b'\n' {
+                len = i;
+                ends = true;
+                break;
+            }
+        }
+        let part = rest.get(0..len).unwrap_or(&[]);
+        if line.len().saturating_add(len) > MOST_LINE_BYTES {
+            *fits = false;
+        }
+        if *fits {
+            line.extend_from_slice(part)?;
+        }
+        self.start = self.start
+            .saturating_add(len)
+            .saturating_add(usize::from(ends));
+        Ok(ends)
+    }
+
+    // Reads the next line into `line`, without the byte that ends it.
+    pub fn next(&mut self, line: &mut Vec<u8>) -> io::Result<Line> {
+        line.clear();
+        let mut fits = true;
+        let mut empty = true;
+        for _ in 0..u64::MAX {
+            if !self.fill()? {
+                break;
+            }
+            empty = false;
+            if self.take(line, &mut fits)? {
+                break;
+            }
+        }
+        if empty {
+            return Ok(Line::End);
+        }
+        if fits {
+            Ok(Line::Whole)
+        } else {
+            Ok(Line::TooLong)
+        }
+    }
+}
