@@ -11,13 +11,14 @@
 //   the open nodes        131,072 bytes    (32,768 at most, one byte each, in a vector that doubles; of the tree, then of the result)
 //   all together        4,096,000 bytes, of 4,194,304 (4 MiB)
 use crate::refusal::Refusal;
-use crate::refusal::RefusalFromFault;
-use crate::refusal::RefusalFromUnwritten;
 use std::alloc::AllocError;
 use std::alloc::Global;
+use terms::Unwritten;
 use terms::read_term;
 use terms::write_term;
 use text::Job;
+use tokens::Fault;
+use tokens::Names;
 use turned::Done;
 
 pub const MOST_JOB_BYTES: usize = 131_072;
@@ -73,29 +74,41 @@ impl Buffers {
 
     // Turns the tree of the line. The result's term, with the end of its line, then stands in `text`.
     pub fn turn(&mut self, heap: Global, job: &Job) -> Result<(), Refusal> {
+        self.read(heap, &job.marks)?;
+        let len = self.turn_words(&job.words)?;
+        self.write(heap, &job.marks, len)
+    }
+
+    // Reads the words of the tree from the line.
+    fn read(&mut self, heap: Global, marks: &Names) -> Result<(), Refusal> {
         if is_blank(&self.line) {
             return Err(Refusal::NoTree);
         }
-        read_term(
-            heap,
-            &self.line,
-            &job.marks,
-            MOST_TREE_WORDS,
-            &mut self.tree,
-        )?;
-        let len = self.turn_words(&job.words)?;
-        let result = self.result.get(0..len).unwrap_or(&[]);
-        write_term(
-            heap,
-            result,
-            &job.marks,
-            MOST_RESULT_BYTES - 1,
-            &mut self.text,
-        )?;
-        if self.text.push(b'\n').is_err() {
-            return Err(Refusal::Memory);
+        match read_term(heap, &self.line, marks, MOST_TREE_WORDS, &mut self.tree) {
+            Ok(()) => Ok(()),
+            Err(Fault::Memory) => Err(Refusal::Memory),
+            Err(Fault::Wrong { place, mistake }) => Err(Refusal::Wrong {
+                column: place.column,
+                mistake,
+            }),
         }
-        Ok(())
+    }
+
+    // Writes the term of the result's first words.
+    fn write(&mut self, heap: Global, marks: &Names, len: usize) -> Result<(), Refusal> {
+        let Some(words) = self.result.get(0..len) else {
+            return Err(Refusal::Full);
+        };
+        match write_term(heap, words, marks, MOST_RESULT_BYTES - 1, &mut self.text) {
+            Ok(()) => {}
+            Err(Unwritten::Memory) => return Err(Refusal::Memory),
+            Err(Unwritten::NoTree) => return Err(Refusal::NoTree),
+            Err(Unwritten::TooLong) => return Err(Refusal::Full),
+        }
+        match self.text.push(b'\n') {
+            Ok(()) => Ok(()),
+            Err(_) => Err(Refusal::Memory),
+        }
     }
 
     // Turns the words of the tree, and gives how many words the result has.

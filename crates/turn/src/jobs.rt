@@ -37,7 +37,10 @@ pub fn read(rt: &LibcRuntime, file: String) -> Result<Job, Failure> {
         }
     };
     match read_job_within(rt.alloc(), text, MOST_JOB_WORDS) {
-        Ok(job) => Ok(job),
+        Ok(mut job) => {
+            job.words.shrink_to_fit();
+            Ok(job)
+        }
         Err(Fault::Memory) => Err(Failure::Memory),
         Err(Fault::Wrong { place, mistake }) => Err(Failure::Wrong {
             file,

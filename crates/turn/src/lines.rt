@@ -5,6 +5,8 @@ use std::alloc::AllocError;
 use std::alloc::Global;
 use std::io;
 use std::io::Read;
+ghost use Prim.Native.Nat.{_≤_};
+ghost use lib.ListN.{length};
 
 // What stands in a line.
 #[derive(Clone, Copy)]
@@ -14,6 +16,18 @@ pub enum Line {
     TooLong,
     // There is no line: the input has ended.
     End,
+}
+
+// How many bytes stand before the end of the first line.
+fn line_len(bytes: &[u8]) -> usize
+    ensures { λ r. ⌜ r ≤ length (now (bytes .entry)) ⌝ }
+{
+    for (i, byte) in bytes.iter().enumerate() {
+        if *byte == b'\n' {
+            return i;
+        }
+    }
+    bytes.len()
 }
 
 #[derive(Drop)]
@@ -49,26 +63,21 @@ impl<R: Read + Drop> Lines<R> {
 
     // Adds what the block has of the line, and says whether the line ends in it.
     fn take(&mut self, line: &mut Vec<u8>, fits: &mut bool) -> Result<bool, AllocError> {
-        let rest = self.block.get(self.start..self.end).unwrap_or(&[]);
-        let mut len = rest.len();
-        let mut ends = false;
-        for (i, byte) in rest.iter().enumerate() {
-            if *byte == b'\n' {
-                len = i;
-                ends = true;
-                break;
-            }
-        }
-        let part = rest.get(0..len).unwrap_or(&[]);
-        if line.len().saturating_add(len) > MOST_LINE_BYTES {
+        let Some(rest) = self.block.get(self.start..self.end) else {
+            return Ok(true);
+        };
+        let len = line_len(rest);
+        let ends = len < rest.len();
+        if len > MOST_LINE_BYTES.saturating_sub(line.len()) {
             *fits = false;
         }
         if *fits {
-            line.extend_from_slice(part)?;
+            line.extend_from_slice(&rest[0..len])?;
         }
-        self.start = self.start
-            .saturating_add(len)
-            .saturating_add(usize::from(ends));
+        self.start = self.start.saturating_add(len);
+        if ends {
+            self.start = self.start.saturating_add(1);
+        }
         Ok(ends)
     }
 

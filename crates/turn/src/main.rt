@@ -34,7 +34,7 @@ enum Request {
     },
 }
 
-fn request(rt: &LibcRuntime) -> Result<Request, Failure> {
+fn asked(rt: &LibcRuntime) -> Result<Request, Failure> {
     let mut args = env::args(rt)?.skip(1);
     let Some(job) = args.next() else {
         return Err(Failure::Usage);
@@ -102,23 +102,23 @@ fn turn_file(rt: &LibcRuntime, job: &Job, file: String) -> Result<bool, Failure>
     turn_lines(rt, job, input, &mut buffers)
 }
 
+fn turn_input(rt: &LibcRuntime, job: &Job) -> Result<bool, Failure> {
+    let mut buffers = Buffers::new(rt.alloc())?;
+    turn_lines(rt, job, rt.stdin(), &mut buffers)
+}
+
 fn run(rt: &LibcRuntime) -> Result<bool, Failure> {
-    match request(rt)? {
+    match asked(rt)? {
         Request::Help => {
             println!(rt, "{USAGE}")?;
             Ok(true)
         }
-        Request::Turn {
-            job,
-            trees: Some(trees),
-        } => {
+        Request::Turn { job, trees } => {
             let job = jobs::read(rt, job)?;
-            turn_file(rt, &job, trees)
-        }
-        Request::Turn { job, trees: None } => {
-            let job = jobs::read(rt, job)?;
-            let mut buffers = Buffers::new(rt.alloc())?;
-            turn_lines(rt, &job, rt.stdin(), &mut buffers)
+            match trees {
+                Some(file) => turn_file(rt, &job, file),
+                None => turn_input(rt, &job),
+            }
         }
     }
 }

@@ -1,7 +1,5 @@
 // Why a line has no result.
 use std::fmt;
-use terms::Unwritten;
-use tokens::Fault;
 use tokens::Mistake;
 use tokens::MistakeDisplay;
 
@@ -22,28 +20,6 @@ pub enum Refusal {
     // There are too few work words.
     Small,
     Memory,
-}
-
-pub impl From<Fault> for Refusal as RefusalFromFault {
-    fn from(fault: Fault) -> Refusal {
-        match fault {
-            Fault::Memory => Refusal::Memory,
-            Fault::Wrong { place, mistake } => Refusal::Wrong {
-                column: place.column,
-                mistake,
-            },
-        }
-    }
-}
-
-pub impl From<Unwritten> for Refusal as RefusalFromUnwritten {
-    fn from(error: Unwritten) -> Refusal {
-        match error {
-            Unwritten::Memory => Refusal::Memory,
-            Unwritten::NoTree => Refusal::NoTree,
-            Unwritten::TooLong => Refusal::Full,
-        }
-    }
 }
 
 // A line without a result, counted from 1.
