@@ -11,9 +11,12 @@ use tokens::TokenKind;
 use tokens::TokenKindPartialEq;
 use tokens::Word;
 use tokens::shown;
-ghost use Prim.Native.Nat.{_<_, _≤_};
-ghost use Rattle.std.specs.Of.Vec.{vec-len};
+ghost use mathlib.Core.List.{_++_};
+ghost use mathlib.Core.Path.{_≡_};
+ghost use Prim.Native.Nat.{_+_, _<_, _≤_};
+ghost use Rattle.std.specs.Of.Vec.{vec-len, vec-items};
 ghost use Rattle.std.specs.Vec.{made};
+ghost use Rattle.terms.specs.Beginnings.{Begins, IsTree, ReadTo};
 ghost use Rattle.terms.specs.Progress.{left};
 
 #[derive(Drop)]
@@ -46,6 +49,7 @@ impl<'t> Reader<'t> {
     // The mark that a part begins with.
     fn mark(&mut self, marks: &Names) -> Result<u32, Fault>
         ensures falls { λ r. ⌜ made r (λ _. left (now (self .exit)) < left (now (self .entry))) ⌝ }
+        ensures below { λ r. ⌜ made r (λ mark. mark < now (marks .entry) .count) ⌝ }
     {
         let Some(word) = Word::at(&self.lexer) else {
             return Err(self.lexer.unexpected(self.heap, "a mark"));
@@ -59,6 +63,7 @@ impl<'t> Reader<'t> {
     fn put(&self, item: [u32; 2], most: usize, words: &mut Vec<u32>) -> Result<(), Fault>
         requires room { ⌜ vec-len (now words) ≤ most ⌝ }
         ensures bound { λ _. ⌜ vec-len (now (words .exit)) ≤ most ⌝ }
+        ensures after { λ r. ⌜ made r (λ _. vec-items (now (words .exit)) ≡ vec-items (now (words .entry)) ++ item) ⌝ }
     {
         if most - words.len() < 2 {
             return Err(self.lexer.fault(Mistake::TooLong { most }));
@@ -95,14 +100,19 @@ impl<'t> Reader<'t> {
         to_come: usize,
     ) -> Result<Option<usize>, Fault>
         requires room { ⌜ vec-len (now words) ≤ most ⌝ }
+        requires begins { ⌜ Begins (now marks .count) («to_come» + 1) (vec-items (now words)) ⌝ }
         ensures bound { λ _. ⌜ vec-len (now (words .exit)) ≤ most ⌝ }
         ensures falls { λ r. ⌜ made r (λ _. left (now (self .exit)) < left (now (self .entry))) ⌝ }
+        ensures row { λ r. ⌜ made r (λ next. ReadTo (now (marks .entry) .count) (vec-items (now (words .exit))) next) ⌝ }
     {
         let mark = self.mark(marks)?;
         if self.lexer.kind() != TokenKind::OpenParen {
             self.put([0, mark], most, words)?;
             self.close(parents)?;
-            return Ok(to_come.checked_sub(1));
+            if to_come == 0 {
+                return Ok(None);
+            }
+            return Ok(Some(to_come - 1));
         }
         let Some(more) = to_come.checked_add(1) else {
             return Err(self.lexer.fault(Mistake::TooLong { most }));
@@ -125,7 +135,8 @@ impl<'t> Reader<'t> {
     }
 }
 
-// Reads a tree with such marks into `words`, which are at most `most`; what they were before is forgotten.
+// Reads a tree with such marks into `words`, which are then its row, and in any case at most `most`; what they were before
+// is forgotten.
 pub fn read_term(
     heap: Global,
     text: &[u8],
@@ -134,6 +145,7 @@ pub fn read_term(
     words: &mut Vec<u32>,
 ) -> Result<(), Fault>
     ensures bound { λ _. ⌜ vec-len (now (words .exit)) ≤ most ⌝ }
+    ensures tree { λ r. ⌜ made r (λ _. IsTree (now (marks .entry) .count) (vec-items (now (words .exit)))) ⌝ }
 {
     let mut reader = Reader {
         heap,
