@@ -1,18 +1,18 @@
 // The section of a type: its kinds, a rule for each kind of leaf and node, and the kinds that are wanted.
-use crate::lexer::Keyword;
-use crate::lexer::TokenKind;
-use crate::lexer::TokenKindPartialEq;
-use crate::mistakes::Fault;
-use crate::mistakes::FaultFromAlloc;
-use crate::mistakes::FaultFromRefused;
-use crate::mistakes::Mistake;
-use crate::mistakes::Sort;
-use crate::naming::Names;
 use crate::parser::Parser;
 use crate::table::Table;
 use crate::table::crossed;
 use std::alloc::AllocError;
 use std::alloc::Global;
+use tokens::Fault;
+use tokens::FaultFromAlloc;
+use tokens::FaultFromRefused;
+use tokens::Keyword;
+use tokens::Mistake;
+use tokens::Names;
+use tokens::Sort;
+use tokens::TokenKind;
+use tokens::TokenKindPartialEq;
 ghost use Prim.Native.Nat.{_<_, _≤_};
 ghost use lib.ListN.{length};
 ghost use Rattle.std.specs.Vec.{made};
@@ -27,7 +27,20 @@ struct Automaton<'n> {
     results: Table<u32>,
 }
 
-impl Automaton<'_> {
+impl<'n> Automaton<'n> {
+    fn new(heap: Global, marks: &'n Names, kinds: Names) -> Result<Automaton<'n>, AllocError> {
+        let leaves = marks.count() as usize;
+        let count = kinds.count() as usize;
+        match Table::new(heap, leaves + leaves * count * count) {
+            Ok(results) => Ok(Automaton {
+                marks,
+                kinds,
+                results,
+            }),
+            Err(error) => Err(error),
+        }
+    }
+
     fn case_name(&self, heap: Global, case: usize) -> Result<String, AllocError> {
         let leaves = self.marks.count() as usize;
         if case < leaves {
@@ -40,6 +53,21 @@ impl Automaton<'_> {
         let right = self.kinds.name(heap, (case - leaves) % count)?;
         format!(heap, "{mark}({left}, {right})")
     }
+
+    // The cases of a node with one of the marks, and parts of the kinds.
+    fn node_cases(
+        &self,
+        heap: Global,
+        marks: &[u32],
+        left: &[u32],
+        right: &[u32],
+    ) -> Result<Vec<usize>, AllocError> {
+        let leaves = self.marks.count() as usize;
+        let count = self.kinds.count() as usize;
+        let rows = crossed(heap, 0, &[0], 1, marks)?;
+        let pairs = crossed(heap, 0, &rows, count, left)?;
+        crossed(heap, leaves, &pairs, count, right)
+    }
 }
 
 impl<'a> Parser<'a> {
@@ -50,27 +78,12 @@ impl<'a> Parser<'a> {
         marks: &Names,
         words: &mut Vec<u32>,
     ) -> Result<Names, Fault> {
-        self.expect(TokenKind::Reserved(keyword))?;
-        self.expect(TokenKind::OpenBrace)?;
-        let kinds = self.declared(Keyword::Kinds, Sort::Kind)?;
-        let leaves = marks.count() as usize;
+        let kinds = self.section(keyword, Keyword::Kinds, Sort::Kind)?;
         let count = kinds.count() as usize;
-        let results = Table::new(self.heap, leaves + leaves * count * count)?;
-        let mut automaton = Automaton {
-            marks,
-            kinds,
-            results,
-        };
-        while self.lexer.kind() != TokenKind::Reserved(Keyword::Wanted) {
-            self.automaton_rule(&mut automaton)?;
-        }
-        self.advance()?;
-        let wanted = self.listed(&automaton.kinds, "a kind or the end of the line")?;
-        if self.lexer.kind() != TokenKind::CloseBrace {
-            return Err(self.unexpected("`}`"));
-        }
-        self.automaton_row(&automaton, &wanted, words)?;
-        self.advance()?;
+        self.reserve(marks.count() as usize * count * count, words)?;
+        let mut automaton = Automaton::new(self.heap, marks, kinds)?;
+        self.automaton_rules(&mut automaton)?;
+        self.automaton_end(&automaton, words)?;
         let Automaton {
             marks: _,
             kinds,
@@ -79,42 +92,68 @@ impl<'a> Parser<'a> {
         Ok(kinds)
     }
 
+    fn automaton_rules(&mut self, automaton: &mut Automaton<'_>) -> Result<(), Fault> {
+        while self.lexer.kind() != TokenKind::Reserved(Keyword::Wanted) {
+            self.automaton_rule(automaton)?;
+        }
+        self.advance()
+    }
+
     // `MARKS -> KIND`, or `MARKS(KINDS, KINDS) -> KIND`.
     fn automaton_rule(&mut self, automaton: &mut Automaton<'_>) -> Result<(), Fault>
         ensures { λ r. ⌜ made r (λ _. left (now (self .exit)) < left (now (self .entry))) ⌝ }
     {
         let start = self.lexer.offset();
-        let marks = self.choice(automaton.marks, "a rule or `wanted`")?;
-        let cases = match self.lexer.kind() {
-            TokenKind::Arrow => crossed(self.heap, 0, &[0], 1, &marks)?,
-            TokenKind::OpenParen => self.node_cases(automaton, &marks)?,
-            _ => return Err(self.unexpected("`->` or `(`")),
-        };
+        let cases = self.cases(automaton)?;
         self.expect(TokenKind::Arrow)?;
         let kind = self.pick(&automaton.kinds)?;
         if let Some(clash) = automaton.results.clash(&cases) {
-            let case = automaton.case_name(self.heap, clash.case)?;
-            let line = self.lexer.place(clash.start).line;
-            return Err(self.fault_at(start, Mistake::CaseTwice { case, line }));
+            let case = automaton.case_name(self.heap, clash.case);
+            return Err(self.given_twice(start, clash.start, case));
         }
         automaton.results.add(&cases, start, kind)?;
         Ok(())
     }
 
-    // The cases of a node with one of the marks, and parts of the kinds that are read here: `(KINDS, KINDS)`.
-    fn node_cases(&mut self, automaton: &Automaton<'_>, marks: &[u32]) -> Result<Vec<usize>, Fault>
+    // The cases of the left side of a rule.
+    fn cases(&mut self, automaton: &Automaton<'_>) -> Result<Vec<usize>, Fault>
+        ensures { λ r. ⌜ made r (λ _. left (now (self .exit)) < left (now (self .entry))) ⌝ }
+    {
+        let marks = self.choice(automaton.marks, "a rule or `wanted`")?;
+        match self.lexer.kind() {
+            TokenKind::Arrow => Ok(crossed(self.heap, 0, &[0], 1, &marks)?),
+            TokenKind::OpenParen => {
+                let (left, right) = self.pair(&automaton.kinds)?;
+                Ok(automaton.node_cases(self.heap, &marks, &left, &right)?)
+            }
+            _ => Err(self.lexer.unexpected(self.heap, "`->` or `(`")),
+        }
+    }
+
+    // The kinds of the parts of a node: `(KINDS, KINDS)`.
+    fn pair(&mut self, kinds: &Names) -> Result<(Vec<u32>, Vec<u32>), Fault>
         ensures { λ r. ⌜ made r (λ _. left (now (self .exit)) < left (now (self .entry))) ⌝ }
     {
         self.expect(TokenKind::OpenParen)?;
-        let left = self.choice(&automaton.kinds, "a kind")?;
+        let left = self.choice(kinds, "a kind")?;
         self.expect(TokenKind::Comma)?;
-        let right = self.choice(&automaton.kinds, "a kind")?;
+        let right = self.choice(kinds, "a kind")?;
         self.expect(TokenKind::CloseParen)?;
-        let leaves = automaton.marks.count() as usize;
-        let count = automaton.kinds.count() as usize;
-        let rows = crossed(self.heap, 0, &[0], 1, marks)?;
-        let pairs = crossed(self.heap, 0, &rows, count, &left)?;
-        Ok(crossed(self.heap, leaves, &pairs, count, &right)?)
+        Ok((left, right))
+    }
+
+    // Reads which kinds are wanted, and writes the row of the type.
+    fn automaton_end(
+        &mut self,
+        automaton: &Automaton<'_>,
+        words: &mut Vec<u32>,
+    ) -> Result<(), Fault> {
+        let wanted = self.listed(&automaton.kinds, "a kind or the end of the line")?;
+        if self.lexer.kind() != TokenKind::CloseBrace {
+            return Err(self.lexer.unexpected(self.heap, "`}`"));
+        }
+        self.automaton_row(automaton, &wanted, words)?;
+        self.advance()
     }
 
     // Writes the number of kinds, the kind of each case, and the number of wanted kinds and these.
@@ -130,7 +169,7 @@ impl<'a> Parser<'a> {
         for case in 0..automaton.results.len() {
             let Some(kind) = automaton.results.result(case) else {
                 let case = automaton.case_name(self.heap, case)?;
-                return Err(self.fault(Mistake::CaseMissing { case }));
+                return Err(self.lexer.fault(Mistake::CaseMissing { case }));
             };
             words.push(*kind)?;
         }

@@ -1,18 +1,19 @@
 // Lists of names. One behind a keyword ends with its line; one in the left side of a rule has `|` between its names.
-use crate::lexer::Keyword;
-use crate::lexer::TokenKind;
-use crate::lexer::TokenKindPartialEq;
-use crate::mistakes::Fault;
-use crate::mistakes::FaultFromAlloc;
-use crate::mistakes::FaultFromRefused;
-use crate::mistakes::Mistake;
-use crate::mistakes::Sort;
-use crate::naming::MOST;
-use crate::naming::Names;
-use crate::naming::position;
 use crate::parser::Parser;
 use std::alloc::AllocError;
 use std::alloc::Global;
+use tokens::Fault;
+use tokens::FaultFromAlloc;
+use tokens::FaultFromRefused;
+use tokens::Keyword;
+use tokens::MOST;
+use tokens::Mistake;
+use tokens::Names;
+use tokens::Sort;
+use tokens::TokenKind;
+use tokens::TokenKindPartialEq;
+use tokens::position;
+use tokens::shown;
 ghost use mathlib.Core.Path.{_≡_};
 ghost use Prim.Native.Nat.{_+_, _<_, _≤_};
 ghost use Rattle.std.specs.Of.Vec.{vec-len};
@@ -28,6 +29,18 @@ fn all(heap: Global, names: &Names) -> Result<Vec<u32>, AllocError> {
 }
 
 impl<'a> Parser<'a> {
+    // The beginning of a section: its keyword, a brace, and the things that it declares.
+    pub fn section(
+        &mut self,
+        keyword: Keyword,
+        declares: Keyword,
+        sort: Sort,
+    ) -> Result<Names, Fault> {
+        self.expect(TokenKind::Reserved(keyword))?;
+        self.expect(TokenKind::OpenBrace)?;
+        self.declared(declares, sort)
+    }
+
     // The things that a keyword declares: their number, or their names.
     pub fn declared(&mut self, keyword: Keyword, sort: Sort) -> Result<Names, Fault> {
         self.expect(TokenKind::Reserved(keyword))?;
@@ -41,7 +54,7 @@ impl<'a> Parser<'a> {
         if self.lexer.starts_line() {
             Ok(())
         } else {
-            Err(self.unexpected(expected))
+            Err(self.lexer.unexpected(self.heap, expected))
         }
     }
 
@@ -52,7 +65,7 @@ impl<'a> Parser<'a> {
                 self.end_line("the end of the line")?;
                 Ok(names)
             }
-            None => Err(self.fault(Mistake::Count { sort })),
+            None => Err(self.lexer.fault(Mistake::Count { sort })),
         }
     }
 
@@ -62,12 +75,15 @@ impl<'a> Parser<'a> {
             self.declare(&mut names, sort)?;
         }
         if names.is_empty() {
-            return Err(self.unexpected("a number or a name on the same line"));
+            return Err(
+                self.lexer
+                    .unexpected(self.heap, "a number or a name on the same line"),
+            );
         }
         self.end_line("a name or the end of the line")?;
         match Names::named(sort, names) {
             Some(names) => Ok(names),
-            None => Err(self.fault(Mistake::Count { sort })),
+            None => Err(self.lexer.fault(Mistake::Count { sort })),
         }
     }
 
@@ -76,12 +92,12 @@ impl<'a> Parser<'a> {
         ensures { λ r. ⌜ made r (λ _. left (now (self .exit)) < left (now (self .entry))) ⌝ }
     {
         let word = self.lexer.word();
-        let name = self.string(word)?;
+        let name = shown(self.heap, word)?;
         if names.len() >= MOST as usize {
-            return Err(self.fault(Mistake::Count { sort }));
+            return Err(self.lexer.fault(Mistake::Count { sort }));
         }
         if position(names.as_slice(), word).is_some() {
-            return Err(self.fault(Mistake::NameTwice { sort, name }));
+            return Err(self.lexer.fault(Mistake::NameTwice { sort, name }));
         }
         names.push(name)?;
         self.advance()?;
@@ -98,16 +114,18 @@ impl<'a> Parser<'a> {
         ensures { λ r. ⌜ made r (λ _. (left (now (self .exit)) < left (now (self .entry))) × (vec-len (now (chosen .exit)) ≡ vec-len (now (chosen .entry)) + 1)) ⌝ }
     {
         let word = self.word(expected)?;
-        let index = self.resolve(word, names)?;
+        let index = word.resolve(self.heap, &self.lexer, names)?;
         if chosen.contains(&index) {
-            let name = self.string(word.text)?;
-            return Err(self.fault_at(
-                word.offset,
-                Mistake::NameTwice {
-                    sort: names.sort(),
-                    name,
-                },
-            ));
+            let name = shown(self.heap, word.text)?;
+            return Err(
+                self.lexer.fault_at(
+                    word.offset,
+                    Mistake::NameTwice {
+                        sort: names.sort(),
+                        name,
+                    },
+                ),
+            );
         }
         chosen.push(index)?;
         Ok(())

@@ -1,26 +1,18 @@
 // What all the sections of a job are read with: tokens, names and lists of names.
-use crate::lexer::Keyword;
-use crate::lexer::Lexer;
-use crate::lexer::TokenKind;
-use crate::mistakes::Fault;
-use crate::mistakes::Mistake;
-use crate::mistakes::Sort;
-use crate::naming::Names;
 use std::alloc::AllocError;
 use std::alloc::Global;
+use tokens::Fault;
+use tokens::Keyword;
+use tokens::Lexer;
+use tokens::Mistake;
+use tokens::Names;
+use tokens::Sort;
+use tokens::TokenKind;
+use tokens::Word;
 ghost use Prim.Native.Nat.{_<_};
 ghost use Rattle.std.specs.Vec.{made};
 ghost use Rattle.text.specs.Progress.{left};
-use crate::lexer::TokenKindPartialEq;
-use crate::mistakes::FaultFromAlloc;
-
-// A name or a number, before it is known what it stands for.
-#[derive(Clone, Copy)]
-pub struct Word<'a> {
-    pub text: &'a [u8],
-    pub number: Option<u32>,
-    pub offset: usize,
-}
+use tokens::TokenKindPartialEq;
 
 // How a message names a token.
 fn spelled(kind: TokenKind) -> &'static str {
@@ -67,41 +59,16 @@ fn one_of(sort: Sort) -> &'static str {
 pub struct Parser<'a> {
     pub heap: Global,
     pub lexer: Lexer<'a>,
+    // The job has at most so many words.
+    pub most: usize,
 }
 
 impl<'a> Parser<'a> {
-    pub fn new(heap: Global, text: &'a str) -> Parser<'a> {
+    pub fn new(heap: Global, text: &'a str, most: usize) -> Parser<'a> {
         Parser {
             heap,
-            lexer: Lexer::new(text),
-        }
-    }
-
-    pub fn fault_at(&self, offset: usize, mistake: Mistake) -> Fault {
-        Fault::Wrong {
-            place: self.lexer.place(offset),
-            mistake,
-        }
-    }
-
-    // The fault of a mistake at the token.
-    pub fn fault(&self, mistake: Mistake) -> Fault {
-        self.fault_at(self.lexer.offset(), mistake)
-    }
-
-    pub fn string(&self, bytes: &[u8]) -> Result<String, AllocError> {
-        String::from_utf8_lossy(self.heap, bytes)
-    }
-
-    // The fault of a token that is not what is expected.
-    pub fn unexpected(&self, expected: &'static str) -> Fault {
-        let Ok(found) = self.string(self.lexer.word()) else {
-            return Fault::Memory;
-        };
-        match self.lexer.kind() {
-            TokenKind::Strange => self.fault(Mistake::Character { found }),
-            TokenKind::End => self.fault(Mistake::Ended { expected }),
-            _ => self.fault(Mistake::Token { found, expected }),
+            most,
+            lexer: Lexer::new(text.as_bytes()),
         }
     }
 
@@ -112,7 +79,7 @@ impl<'a> Parser<'a> {
         if self.lexer.advance() {
             Ok(())
         } else {
-            Err(self.unexpected("more text"))
+            Err(self.lexer.unexpected(self.heap, "more text"))
         }
     }
 
@@ -120,56 +87,46 @@ impl<'a> Parser<'a> {
         ensures { λ r. ⌜ made r (λ _. left (now (self .exit)) < left (now (self .entry))) ⌝ }
     {
         if self.lexer.kind() == kind {
-            self.advance()?;
-            Ok(())
+            self.advance()
         } else {
-            Err(self.unexpected(spelled(kind)))
+            Err(self.lexer.unexpected(self.heap, spelled(kind)))
         }
+    }
+
+    // Whether there may be so many words more.
+    pub fn reserve(&self, more: usize, words: &[u32]) -> Result<(), Fault> {
+        if words.len().saturating_add(more) > self.most {
+            return Err(self.lexer.fault(Mistake::TooLong { most: self.most }));
+        }
+        Ok(())
+    }
+
+    // The fault of a rule that gives a case which an earlier one gives.
+    pub fn given_twice(
+        &self,
+        start: usize,
+        earlier: usize,
+        case: Result<String, AllocError>,
+    ) -> Fault {
+        let Ok(case) = case else {
+            return Fault::Memory;
+        };
+        let line = self.lexer.place(earlier).line;
+        self.lexer
+            .fault_at(start, Mistake::CaseTwice { case, line })
     }
 
     // A name or a number.
     pub fn word(&mut self, expected: &'static str) -> Result<Word<'a>, Fault>
         ensures { λ r. ⌜ made r (λ _. left (now (self .exit)) < left (now (self .entry))) ⌝ }
     {
-        let number = match self.lexer.kind() {
-            TokenKind::Name => None,
-            TokenKind::Number(number) => Some(number),
-            _ => return Err(self.unexpected(expected)),
-        };
-        let word = Word {
-            text: self.lexer.word(),
-            number,
-            offset: self.lexer.offset(),
-        };
-        self.advance()?;
-        Ok(word)
-    }
-
-    // The thing that a word stands for.
-    pub fn resolve(&self, word: Word<'a>, names: &Names) -> Result<u32, Fault>
-        ensures { λ r. ⌜ made r (λ i. i < now (names .entry) .count) ⌝ }
-    {
-        let sort = names.sort();
-        let count = names.count();
-        if let Some(number) = word.number {
-            if number < count {
-                return Ok(number);
+        match Word::at(&self.lexer) {
+            Some(word) => {
+                self.advance()?;
+                Ok(word)
             }
-            let number = self.string(word.text)?;
-            return Err(self.fault_at(
-                word.offset,
-                Mistake::Number {
-                    sort,
-                    number,
-                    count,
-                },
-            ));
+            None => Err(self.lexer.unexpected(self.heap, expected)),
         }
-        if let Some(index) = names.find(word.text) {
-            return Ok(index);
-        }
-        let name = self.string(word.text)?;
-        Err(self.fault_at(word.offset, Mistake::Unknown { sort, name }))
     }
 
     // One of the things that the names stand for.
@@ -177,7 +134,7 @@ impl<'a> Parser<'a> {
         ensures { λ r. ⌜ made r (λ i. (i < now (names .entry) .count) × (left (now (self .exit)) < left (now (self .entry)))) ⌝ }
     {
         let word = self.word(one_of(names.sort()))?;
-        let index = self.resolve(word, names)?;
+        let index = word.resolve(self.heap, &self.lexer, names)?;
         Ok(index)
     }
 }

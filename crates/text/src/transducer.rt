@@ -1,19 +1,19 @@
 // The section of a turn: its states, and for each state and mark a pattern for leaves and one for nodes.
-use crate::lexer::Keyword;
-use crate::lexer::TokenKind;
-use crate::lexer::TokenKindPartialEq;
-use crate::mistakes::Fault;
-use crate::mistakes::FaultFromAlloc;
-use crate::mistakes::FaultFromRefused;
-use crate::mistakes::Mistake;
-use crate::mistakes::Sort;
-use crate::naming::Names;
 use crate::parser::Parser;
-use crate::parser::Word;
 use crate::table::Table;
 use crate::table::crossed;
 use std::alloc::AllocError;
 use std::alloc::Global;
+use tokens::Fault;
+use tokens::FaultFromAlloc;
+use tokens::FaultFromRefused;
+use tokens::Keyword;
+use tokens::Mistake;
+use tokens::Names;
+use tokens::Sort;
+use tokens::TokenKind;
+use tokens::TokenKindPartialEq;
+use tokens::Word;
 ghost use Prim.Native.Nat.{_<_, _≤_};
 ghost use Rattle.std.specs.Vec.{made};
 ghost use Rattle.text.specs.Progress.{left};
@@ -46,6 +46,14 @@ struct Transducer<'n> {
     patterns: Table<Vec<Piece>>,
 }
 
+// The left side of a rule.
+#[derive(Drop)]
+struct LeftSide {
+    states: Vec<u32>,
+    marks: Vec<u32>,
+    is_node: bool,
+}
+
 impl Transducer<'_> {
     // How many cases are of leaves.
     fn leaves(&self) -> usize
@@ -53,6 +61,13 @@ impl Transducer<'_> {
         ensures few { λ r. ⌜ r ≤ 4096 ⌝ }
     {
         self.states.count() as usize * self.marks.count() as usize
+    }
+
+    // The cases that a rule gives.
+    fn cases(&self, heap: Global, rule: &LeftSide) -> Result<Vec<usize>, AllocError> {
+        let first = if rule.is_node { self.leaves() } else { 0 };
+        let rows = crossed(heap, 0, &[0], 1, &rule.states)?;
+        crossed(heap, first, &rows, self.marks.count() as usize, &rule.marks)
     }
 
     fn case_name(&self, heap: Global, case: usize) -> Result<String, AllocError> {
@@ -82,9 +97,7 @@ fn write_pattern(pattern: &[Piece], mark: u32, words: &mut Vec<u32>) -> Result<(
 impl<'a> Parser<'a> {
     // Reads a turn, writes its row behind `words`, and gives its states.
     pub fn transducer(&mut self, marks: &Names, words: &mut Vec<u32>) -> Result<Names, Fault> {
-        self.expect(TokenKind::Reserved(Keyword::Turn))?;
-        self.expect(TokenKind::OpenBrace)?;
-        let states = self.declared(Keyword::States, Sort::State)?;
+        let states = self.section(Keyword::Turn, Keyword::States, Sort::State)?;
         let leaves = states.count() as usize * marks.count() as usize;
         let patterns = Table::new(self.heap, 2 * leaves)?;
         let mut transducer = Transducer {
@@ -92,9 +105,7 @@ impl<'a> Parser<'a> {
             states,
             patterns,
         };
-        while self.lexer.kind() != TokenKind::CloseBrace {
-            self.transducer_rule(&mut transducer)?;
-        }
+        self.transducer_rules(&mut transducer)?;
         self.transducer_row(&transducer, words)?;
         self.advance()?;
         let Transducer {
@@ -105,40 +116,50 @@ impl<'a> Parser<'a> {
         Ok(states)
     }
 
+    fn transducer_rules(&mut self, transducer: &mut Transducer<'_>) -> Result<(), Fault> {
+        while self.lexer.kind() != TokenKind::CloseBrace {
+            self.transducer_rule(transducer)?;
+        }
+        Ok(())
+    }
+
     // `STATES(MARKS) -> PATTERN`, or `STATES(MARKS(left, right)) -> PATTERN`.
     fn transducer_rule(&mut self, transducer: &mut Transducer<'_>) -> Result<(), Fault>
         ensures { λ r. ⌜ made r (λ _. left (now (self .exit)) < left (now (self .entry))) ⌝ }
     {
         let start = self.lexer.offset();
+        let side = self.left_side(transducer)?;
+        let mut pattern = Vec::new(self.heap);
+        let scope = Scope {
+            marks: transducer.marks,
+            states: &transducer.states,
+            is_node: side.is_node,
+        };
+        self.pattern(scope, DEEPEST, &mut pattern)?;
+        let cases = transducer.cases(self.heap, &side)?;
+        if let Some(clash) = transducer.patterns.clash(&cases) {
+            let case = transducer.case_name(self.heap, clash.case);
+            return Err(self.given_twice(start, clash.start, case));
+        }
+        transducer.patterns.add(&cases, start, pattern)?;
+        Ok(())
+    }
+
+    // The left side of a rule, with the arrow.
+    fn left_side(&mut self, transducer: &Transducer<'_>) -> Result<LeftSide, Fault>
+        ensures { λ r. ⌜ made r (λ _. left (now (self .exit)) < left (now (self .entry))) ⌝ }
+    {
         let states = self.choice(&transducer.states, "a rule or `}`")?;
         self.expect(TokenKind::OpenParen)?;
         let marks = self.choice(transducer.marks, "a mark")?;
         let is_node = self.parts()?;
         self.expect(TokenKind::CloseParen)?;
         self.expect(TokenKind::Arrow)?;
-        let mut pattern = Vec::new(self.heap);
-        let scope = Scope {
-            marks: transducer.marks,
-            states: &transducer.states,
+        Ok(LeftSide {
+            states,
+            marks,
             is_node,
-        };
-        self.pattern(scope, DEEPEST, &mut pattern)?;
-        let first = if is_node { transducer.leaves() } else { 0 };
-        let rows = crossed(self.heap, 0, &[0], 1, &states)?;
-        let cases = crossed(
-            self.heap,
-            first,
-            &rows,
-            transducer.marks.count() as usize,
-            &marks,
-        )?;
-        if let Some(clash) = transducer.patterns.clash(&cases) {
-            let case = transducer.case_name(self.heap, clash.case)?;
-            let line = self.lexer.place(clash.start).line;
-            return Err(self.fault_at(start, Mistake::CaseTwice { case, line }));
-        }
-        transducer.patterns.add(&cases, start, pattern)?;
-        Ok(())
+        })
     }
 
     // Whether `(left, right)` stands here, which is then read.
@@ -155,7 +176,7 @@ impl<'a> Parser<'a> {
                 self.expect(TokenKind::CloseParen)?;
                 Ok(true)
             }
-            _ => Err(self.unexpected("`(` or `)`")),
+            _ => Err(self.lexer.unexpected(self.heap, "`(` or `)`")),
         }
     }
 
@@ -171,14 +192,21 @@ impl<'a> Parser<'a> {
         Ok(Some(word))
     }
 
-    fn mark(&self, head: Option<Word<'a>>, marks: &Names) -> Result<Piece, Fault> {
-        match head {
-            Some(word) => {
-                let mark = self.resolve(word, marks)?;
-                Ok(Piece::Word(mark))
-            }
-            None => Ok(Piece::SameMark),
-        }
+    // Writes what a leaf or a node begins with: which of the two it is, and its mark.
+    fn mark(
+        &self,
+        tag: u32,
+        head: Option<Word<'a>>,
+        marks: &Names,
+        pattern: &mut Vec<Piece>,
+    ) -> Result<(), Fault> {
+        let mark = match head {
+            Some(word) => Piece::Word(word.resolve(self.heap, &self.lexer, marks)?),
+            None => Piece::SameMark,
+        };
+        pattern.push(Piece::Word(tag))?;
+        pattern.push(mark)?;
+        Ok(())
     }
 
     // Reads a pattern that may be `depth_left` deep, and writes its pieces behind `pattern`.
@@ -191,28 +219,31 @@ impl<'a> Parser<'a> {
         ensures { λ r. ⌜ made r (λ _. left (now (self .exit)) < left (now (self .entry))) ⌝ }
     {
         if depth_left == 0 {
-            return Err(self.fault(Mistake::Deep));
+            return Err(self.lexer.fault(Mistake::Deep));
         }
         let head = self.head()?;
         if self.lexer.kind() != TokenKind::OpenParen {
-            pattern.push(Piece::Word(0))?;
-            pattern.push(self.mark(head, scope.marks)?)?;
-            return Ok(());
+            return self.mark(0, head, scope.marks, pattern);
         }
         self.advance()?;
-        match self.lexer.kind() {
-            TokenKind::Reserved(Keyword::Left) => self.part(head, 0, scope, pattern)?,
-            TokenKind::Reserved(Keyword::Right) => self.part(head, 1, scope, pattern)?,
-            _ => {
-                pattern.push(Piece::Word(1))?;
-                pattern.push(self.mark(head, scope.marks)?)?;
-                self.pattern(scope, depth_left - 1, pattern)?;
-                self.expect(TokenKind::Comma)?;
-                self.pattern(scope, depth_left - 1, pattern)?;
-            }
+        if let Some(side) = self.side() {
+            self.part(head, side, scope, pattern)?;
+        } else {
+            self.mark(1, head, scope.marks, pattern)?;
+            self.pattern(scope, depth_left - 1, pattern)?;
+            self.expect(TokenKind::Comma)?;
+            self.pattern(scope, depth_left - 1, pattern)?;
         }
-        self.expect(TokenKind::CloseParen)?;
-        Ok(())
+        self.expect(TokenKind::CloseParen)
+    }
+
+    // Which part the token names.
+    fn side(&self) -> Option<u32> {
+        match self.lexer.kind() {
+            TokenKind::Reserved(Keyword::Left) => Some(0),
+            TokenKind::Reserved(Keyword::Right) => Some(1),
+            _ => None,
+        }
     }
 
     // What a state makes of a part, whose side is the token.
@@ -226,17 +257,16 @@ impl<'a> Parser<'a> {
         ensures { λ r. ⌜ made r (λ _. left (now (self .exit)) < left (now (self .entry))) ⌝ }
     {
         let Some(word) = head else {
-            return Err(self.unexpected("a pattern"));
+            return Err(self.lexer.unexpected(self.heap, "a pattern"));
         };
         if !scope.is_node {
-            return Err(self.fault_at(word.offset, Mistake::PartOfLeaf));
+            return Err(self.lexer.fault_at(word.offset, Mistake::PartOfLeaf));
         }
-        let state = self.resolve(word, scope.states)?;
+        let state = word.resolve(self.heap, &self.lexer, scope.states)?;
         pattern.push(Piece::Word(2))?;
         pattern.push(Piece::Word(state))?;
         pattern.push(Piece::Word(side))?;
-        self.advance()?;
-        Ok(())
+        self.advance()
     }
 
     // Writes the number of states and the pattern of each case.
@@ -250,8 +280,9 @@ impl<'a> Parser<'a> {
         for case in 0..transducer.patterns.len() {
             let Some(pattern) = transducer.patterns.result(case) else {
                 let case = transducer.case_name(self.heap, case)?;
-                return Err(self.fault(Mistake::CaseMissing { case }));
+                return Err(self.lexer.fault(Mistake::CaseMissing { case }));
             };
+            self.reserve(pattern.len(), words)?;
             write_pattern(pattern, (case % count) as u32, words)?;
         }
         Ok(())

@@ -77,7 +77,7 @@ pub enum Mistake {
     Ended {
         expected: &'static str,
     },
-    // Something stands behind the end of the job.
+    // Something stands behind the end.
     Behind {
         found: String,
     },
@@ -113,6 +113,10 @@ pub enum Mistake {
     CaseMissing {
         case: String,
     },
+    // What is read has more words than it may have.
+    TooLong {
+        most: usize,
+    },
 }
 
 pub impl fmt::Display for Mistake as MistakeDisplay {
@@ -146,11 +150,12 @@ pub impl fmt::Display for Mistake as MistakeDisplay {
                 )
             }
             Mistake::CaseMissing { case } => write!(f, "no rule gives `{case}`"),
+            Mistake::TooLong { most } => write!(f, "more than {most} words"),
         }
     }
 }
 
-// Why a text gives no job.
+// Why a text gives nothing.
 #[derive(Debug, Drop)]
 pub enum Fault {
     Memory,

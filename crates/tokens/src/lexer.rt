@@ -1,9 +1,17 @@
 // The tokens of a text. A lexer stands at a token, and goes on to the next. Outside of comments all is ASCII.
+use crate::mistakes::Fault;
+use crate::mistakes::Mistake;
 use crate::mistakes::Place;
 use crate::mistakes::begins_character;
-ghost use Prim.Native.Nat.{_+_, _<_, _≤_};
+use std::alloc::AllocError;
+use std::alloc::Global;
+ghost use Prim.Native.Nat.{_<_, _≤_};
 ghost use lib.Dec.{T};
 ghost use lib.ListN.{length};
+ghost use Rattle.tokens.specs.Progress.{ahead};
+
+// A message has at most so many bytes of a token.
+const MOST_SHOWN: usize = 80;
 
 // The words that are no names.
 #[derive(Clone, Copy, PartialEq)]
@@ -185,6 +193,12 @@ fn first_token(bytes: &[u8]) -> Token
     }
 }
 
+// A token as a message shows it: a long one is cut.
+pub fn shown(heap: Global, word: &[u8]) -> Result<String, AllocError> {
+    let len = word.len().min(MOST_SHOWN);
+    String::from_utf8_lossy(heap, &word[0..len])
+}
+
 #[derive(Clone, Copy)]
 pub struct Lexer<'a> {
     text: &'a [u8],
@@ -196,8 +210,7 @@ pub struct Lexer<'a> {
 
 impl<'a> Lexer<'a> {
     // Stands at the first token of the text.
-    pub fn new(text: &'a str) -> Lexer<'a> {
-        let text = text.as_bytes();
+    pub fn new(text: &'a [u8]) -> Lexer<'a> {
         let rest = &text[blank_len(text)..];
         Lexer {
             text,
@@ -230,9 +243,33 @@ impl<'a> Lexer<'a> {
         Place::of(self.text, offset)
     }
 
+    pub fn fault_at(&self, offset: usize, mistake: Mistake) -> Fault {
+        Fault::Wrong {
+            place: self.place(offset),
+            mistake,
+        }
+    }
+
+    // The fault of a mistake at the token.
+    pub fn fault(&self, mistake: Mistake) -> Fault {
+        self.fault_at(self.offset(), mistake)
+    }
+
+    // The fault of a token that is not what is expected.
+    pub fn unexpected(&self, heap: Global, expected: &'static str) -> Fault {
+        let Ok(found) = shown(heap, self.word()) else {
+            return Fault::Memory;
+        };
+        match self.kind() {
+            TokenKind::Strange => self.fault(Mistake::Character { found }),
+            TokenKind::End => self.fault(Mistake::Ended { expected }),
+            _ => self.fault(Mistake::Token { found, expected }),
+        }
+    }
+
     // Goes on to the next token. At the end of the text it stays, and answers false.
     pub fn advance(&mut self) -> bool
-        ensures { λ r. ⌜ (T r → length (now (now (self .exit) .rest)) < length (now (now (self .entry) .rest))) ⌝ }
+        ensures { λ r. ⌜ (T r → ahead (now (self .exit)) < ahead (now (self .entry))) ⌝ }
     {
         let len = self.token.len;
         let rest = self.rest;

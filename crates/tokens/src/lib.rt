@@ -1,0 +1,31 @@
+// What texts are read with: their tokens, the names in them, and what is wrong with them and where.
+mod lexer;
+mod mistakes;
+mod naming;
+mod words;
+
+pub use lexer::Keyword;
+pub use lexer::KeywordPartialEq;
+pub use lexer::Lexer;
+pub use lexer::TokenKind;
+pub use lexer::TokenKindPartialEq;
+pub use lexer::shown;
+pub use mistakes::Fault;
+pub use mistakes::FaultDebug;
+pub use mistakes::FaultFromAlloc;
+pub use mistakes::FaultFromRefused;
+pub use mistakes::Mistake;
+pub use mistakes::MistakeDebug;
+pub use mistakes::MistakeDisplay;
+pub use mistakes::Place;
+pub use mistakes::PlaceDebug;
+pub use mistakes::PlaceDisplay;
+pub use mistakes::PlacePartialEq;
+pub use mistakes::Sort;
+pub use mistakes::SortDebug;
+pub use mistakes::SortDisplay;
+pub use mistakes::SortPartialEq;
+pub use naming::MOST;
+pub use naming::Names;
+pub use naming::position;
+pub use words::Word;
