@@ -256,8 +256,11 @@ impl<'a> Lexer<'a> {
     }
 
     // The fault of a token that is not what is expected.
-    pub fn unexpected(&self, heap: Global, expected: &'static str) -> Fault {
+    pub fn unexpected(&self, heap: Global, expected: &str) -> Fault {
         let Ok(found) = shown(heap, self.word()) else {
+            return Fault::Memory;
+        };
+        let Ok(expected) = String::from_str(heap, expected) else {
             return Fault::Memory;
         };
         match self.kind() {

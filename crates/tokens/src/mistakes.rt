@@ -71,11 +71,11 @@ pub enum Mistake {
     // Another token than the grammar has here.
     Token {
         found: String,
-        expected: &'static str,
+        expected: String,
     },
     // The text ends too early.
     Ended {
-        expected: &'static str,
+        expected: String,
     },
     // Something stands behind the end.
     Behind {
