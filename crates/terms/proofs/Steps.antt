@@ -1,13 +1,16 @@
 -- What a leaf, a node and the end are to words that begin a row.
 use mathlib.Core.Path.{_≡_, refl, sym, _∙_, ap, subst}
 use mathlib.Core.List.{List, [], _∷_, _++_, append-assoc, append-nil}
-use Prim.Native.Nat.{ℕ, _+_, _<_}
+use Prim.Native.Nat.{ℕ, _+_, _<_, _≤_}
 use native.Mathlib.Omega.{arith}
-use lib.ListN.{length}
+use lib.ListN.{length, getD, take}
+use lib.Seq.{take-all}
+use Rattle.std.proofs.shelf.Lists.{take-more}
 use Rattle.std.specs.shelf.Lists.{joined}
 use Rattle.model.specs.Trees.{Tree, leaf, node, Marked}
 use Rattle.model.specs.Rows.{tree-row}
-use Rattle.terms.specs.Beginnings.{IsTree, AllMarked, Begins}
+use Rattle.std.specs.declared.option.Option.{Option}
+use Rattle.terms.specs.Beginnings.{IsTree, AllMarked, Begins, ReadTo, GoesOn}
 
 -- the row of a tree is that of any words equal to it
 same-tree : (m : ℕ) (s u : List ℕ) → s ≡ u → IsTree m s → IsTree m u
@@ -38,3 +41,28 @@ node-read m k n j a s u e lt en ek g (x ∷ y ∷ ts) l h =
 
 pub whole : (m k : ℕ) (s : List ℕ) → k ≡ 0 → Begins m k s → IsTree m s
 whole m k s e g = same-tree m _ _ (append-nil s) (g [] (sym e) tt)
+
+-- the same of what is written, by its tag
+pub leaf-put : (m k n t a : ℕ) → t ≡ 0 → a < m → n ≡ k + 1 → (s : List ℕ) → Begins m n s → Begins m k (s ++ (t ∷ a ∷ []))
+leaf-put m k n t a e lt en s g =
+    leaf-read m k n a s (s ++ (t ∷ a ∷ [])) (ap (λ (x : ℕ). s ++ (x ∷ a ∷ [])) e) lt en g
+
+pub node-put : (m k j t a : ℕ) → t ≡ 1 → a < m → k ≡ j + 1 + 1 → (s : List ℕ) → Begins m (j + 1) s → Begins m k (s ++ (t ∷ a ∷ []))
+node-put m k j t a e lt ek s g =
+    node-read m k (j + 1) j a s (s ++ (t ∷ a ∷ [])) (ap (λ (x : ℕ). s ++ (x ∷ a ∷ [])) e) lt refl ek g
+
+-- two words more
+pub take-two : (xs : List ℕ) (i k : ℕ) → k ≡ i + 2 → k ≤ length xs → take k xs ≡ take i xs ++ (getD xs i 0 ∷ getD xs (i + 1) 0 ∷ [])
+take-two xs i k e h =
+    let p : take (i + 1) xs ≡ take i xs ++ (getD xs i 0 ∷ []) = take-more xs i 0 (omega arith) in
+    let q : take (i + 1 + 1) xs ≡ take (i + 1) xs ++ (getD xs (i + 1) 0 ∷ []) = take-more xs (i + 1) 0 (omega arith) in
+    let n : k ≡ i + 1 + 1 = omega arith in
+    ap (λ (x : ℕ). take x xs) n
+    ∙ (q ∙ (ap (λ (x : List ℕ). x ++ (getD xs (i + 1) 0 ∷ [])) p ∙ append-assoc (take i xs) (getD xs i 0 ∷ []) (getD xs (i + 1) 0 ∷ [])))
+
+-- how far a writer has come, with two words more
+pub read-on : (m k : ℕ) (o : Option ℕ) (xs : List ℕ) (i j : ℕ) → j ≡ i + 2 → j ≤ length xs → Begins m (k + 1) (take i xs) → GoesOn m (getD xs i 0) (getD xs (i + 1) 0) k o → ReadTo m (take j xs) o
+read-on m k o xs i j e h b g = subst (λ (x : List ℕ). ReadTo m x o) (sym (take-two xs i j e h)) (g (take i xs) b)
+
+pub all-read : (m i : ℕ) (xs : List ℕ) → length xs ≤ i → IsTree m (take i xs) → IsTree m xs
+all-read m i xs h t = same-tree m _ _ (take-all i xs h) t

@@ -28,3 +28,7 @@ Begins m k s = (ts : List Tree) → length ts ≡ k → AllMarked m ts → IsTre
 abbrev pub ReadTo : ℕ → List ℕ → Option ℕ → Type 0
 ReadTo m s None = IsTree m s
 ReadTo m s (Some k) = Begins m (k + 1) s
+
+-- a leaf or a node, with its tag and its mark, brings words that begin a row, with k more parts to come, so far
+abbrev pub GoesOn : ℕ → ℕ → ℕ → ℕ → Option ℕ → Type 0
+GoesOn m t a k o = (s : List ℕ) → Begins m (k + 1) s → ReadTo m (s ++ (t ∷ a ∷ [])) o
