@@ -1,4 +1,6 @@
 // Runs the readers and the calls on the worked case, on jobs and trees at their limits, and on bad input of every sort.
+#![tactic(auto)]
+
 mod jobs;
 mod turns;
 

@@ -1,4 +1,6 @@
 // The calls for other languages: slices are a pointer and a length, and answers are numbers.
+#![tactic(auto)]
+
 ghost use Rattle.std.specs.Prelude.{◌≡◌, ◌+◌, ◌-◌, ◌*◌, ◌^◌, min, length};
 ghost use Rattle.fershuul.specs.Coded.{JudgeCoded, TurnCoded};
 

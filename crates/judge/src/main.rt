@@ -1,4 +1,6 @@
 // Reads a job from a file, and says how large it is, or where it is wrong.
+#![tactic(auto)]
+
 use rows::jobs::JobPlaces;
 use std::alloc::AllocError;
 use std::io::Read;

@@ -1,4 +1,5 @@
 // Runs the call `judge` on worked cases and at the limits of what is lent.
+#![tactic(auto)]
 
 mod jobs;
 mod judging;

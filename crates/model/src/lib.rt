@@ -1,3 +1,5 @@
+#![tactic(auto)]
+
 ghost use Rattle.model.specs.Laws.{RowLaws, TreeOrder};
 ghost use Rattle.model.specs.Worked.{WorkedCase};
 

@@ -1,4 +1,6 @@
 // Numbers of many 32-bit words, the least significant first. No length is fixed; two that are compared or added have equally many words.
+#![tactic(auto)]
+
 ghost use Rattle.std.specs.Prelude.{◌≡◌, ◌+◌, ◌-◌, ◌*◌, ◌^◌, ◌<◌, min, length, replicate};
 ghost use Rattle.std.specs.Ordering.{MatchOrdering};
 ghost use Rattle.numbers.specs.Value.{value, weight};

@@ -1,4 +1,6 @@
 // Every state that a tree automaton reaches, each with the least tree that reaches it, in the order of trees.
+#![tactic(auto)]
+
 ghost use Rattle.std.specs.Prelude.{◌≡◌, ℕ, ◌+◌, ◌<◌, true, length};
 ghost use Rattle.model.specs.Trees.{leaf, node};
 ghost use Rattle.automata.specs.Automata.{TreeAutomaton, Reached, Alphabet};

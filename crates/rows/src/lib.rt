@@ -1,4 +1,6 @@
 // Readers of rows: words that are lent, and what is known of them.
+#![tactic(auto)]
+
 pub mod jobs;
 pub mod numbered;
 pub mod patterns;

@@ -1,4 +1,6 @@
 // Small automata on which the search is tried, and what it finds written out.
+#![tactic(auto)]
+
 ghost use Rattle.std.specs.Prelude.{◌≡◌, ℕ, ◌+◌, ◌*◌, ◌<◌, ◌≤◌};
 ghost use Rattle.automata.specs.Automata.{Alphabet};
 ghost use Rattle.table.specs.Tables.{Room, ranked_at};

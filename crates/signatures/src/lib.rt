@@ -1,4 +1,6 @@
 // The signatures of trees under a job: the theory of the classes that a job tells apart.
+#![tactic(auto)]
+
 pub mod evaluate;
 
 ghost use Rattle.signatures.specs.Laws.{JobLaws, SignatureLaws};

@@ -1,4 +1,6 @@
 // The table of a search: a row for each class of trees seen, found again by its signature, and the order of those settled.
+#![tactic(auto)]
+
 mod layout;
 mod links;
 mod lookup;

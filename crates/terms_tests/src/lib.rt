@@ -1,5 +1,7 @@
 // Tests of what `terms` reads and writes. They stand in a crate of their own, so that a change of a test leaves `terms`
 // proved.
+#![tactic(auto)]
+
 use std::alloc::{AllocError, Global};
 use terms::{Unwritten, read_term, write_term};
 use tokens::{Fault, Names, Sort};

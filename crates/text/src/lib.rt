@@ -1,4 +1,6 @@
 // Reads a job that is written in a readable form, and gives its words, or says where it is wrong.
+#![tactic(auto)]
+
 mod automaton;
 mod lists;
 mod parser;

@@ -1,4 +1,6 @@
 // Tests of what `text` reads. They stand in a crate of their own, so that a change of a test leaves `text` proved.
+#![tactic(auto)]
+
 use std::alloc::{AllocError, Global};
 use text::{Fault, read_job};
 

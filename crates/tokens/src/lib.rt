@@ -1,4 +1,6 @@
 // What texts are read with: their tokens, the names in them, and what is wrong with them and where.
+#![tactic(auto)]
+
 mod lexer;
 mod mistakes;
 mod naming;

@@ -1,5 +1,7 @@
 // Holds the calls to trying: on worked cases and on jobs made at random it tries all small trees, by plain recursion and
 // tables of its own, and compares what it finds with what `judge` and `turn` answer. It stops at the first difference.
+#![tactic(auto)]
+
 mod cases;
 mod counts;
 mod jobs;

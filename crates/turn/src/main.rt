@@ -1,4 +1,6 @@
 // Turns trees, one to a line, by the job in a file.
+#![tactic(auto)]
+
 mod buffers;
 mod failure;
 mod jobs;

@@ -1,4 +1,6 @@
 // The public calls: `judge` says of a job whether it fits, `turn` turns one tree.
+#![tactic(auto)]
+
 ghost use Rattle.std.specs.Prelude.{◌≡◌, ◌+◌, ◌*◌, ◌<◌, ◌≤◌, true, ◌↔◌, length, ◌≢◌};
 ghost use Rattle.transduce.specs.Framed.{SourceKnown};
 ghost use Rattle.turned.specs.Putting.{PutSays};

@@ -1,4 +1,6 @@
 // What is decided of a job: it fits, or the least tree that breaks it.
+#![tactic(auto)]
+
 pub mod trees;
 
 ghost use Rattle.std.specs.Prelude.{◌≡◌, ℕ, ◌+◌, ◌^◌, ◌<◌, ◌≤◌, length};
