@@ -10,11 +10,11 @@ loop-i-init c =
 
 pub returns-then-a-i : goal.returns-then-a-i
 returns-then-a-i c =
-    lower _ _ c.loop-i.i (omega arith) (omega arith) (omega arith) c.loop-i.invariant.1 (λ k. omega (arith, c.type-inv.a k)) c.if-a-i.true
+    lower _ _ c.loop-i.i (omega arith) (omega arith) (omega arith) c.loop-i.invariant.1 (λ k. omega (arith, c.type_inv.a k)) c.if-a-i.true
 
 pub returns-then-a-i-2 : goal.returns-then-a-i-2
 returns-then-a-i-2 c =
-    lower _ _ c.loop-i.i (omega arith) (omega arith) (omega arith) (sym c.loop-i.invariant.1) (λ k. omega (arith, c.type-inv.b k)) c.if-a-i-2.true
+    lower _ _ c.loop-i.i (omega arith) (omega arith) (omega arith) (sym c.loop-i.invariant.1) (λ k. omega (arith, c.type_inv.b k)) c.if-a-i-2.true
 
 pub loop-i-preserved : goal.loop-i-preserved
 loop-i-preserved c = (omega arith, same_below _ _ c.loop-i.i (omega arith) (omega arith) (omega arith) c.loop-i.invariant.1 (omega arith))

@@ -10,4 +10,4 @@ loop-i-init c = omega (arith, ap value (drop_all (length c.args.a.now) c.args.a.
 pub loop-i-preserved : goal.loop-i-preserved
 loop-i-preserved c =
     let v = value_from c.args.a.now c.loop-i.i (omega arith) (omega arith) in
-    omega (arith, v, c.loop-i.invariant, c.saturating-mul.ensures, c.saturating-add-sum.ensures)
+    omega (arith, v, c.loop-i.invariant, c.saturating_mul.ensures, c.saturating_add-sum.ensures)

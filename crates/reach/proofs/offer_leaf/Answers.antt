@@ -11,8 +11,8 @@ find-k-requires g c = record { room = c.requires.searching.state.room; chains = 
 pub set-requires : goal.set-requires
 set-requires g c = omega (arith, c.requires.scratch.for_size, c.requires.searching.state.room.size_bits)
 
-pub take-up-requires : goal.take-up-requires
-take-up-requires g c = record {
+pub take_up-requires : goal.take_up-requires
+take_up-requires g c = record {
   room = c.requires.searching.state.room;
   chains = c.requires.searching.state.chains;
   located = c.find-k.ensures;
@@ -23,7 +23,7 @@ take-up-requires g c = record {
 
 pub returns : goal.returns
 returns g c = record {
-  says = λ S s. c.take-up.ensures.says _ S s (leaf c.args.mark)
+  says = λ S s. c.take_up.ensures.says _ S s (leaf c.args.mark)
       (record { marked = c.requires.mark; signed = sym c.leaf.ensures; sized = c.set.ensures; linked = (refl, refl, refl) });
-  kept = c.take-up.ensures.kept;
+  kept = c.take_up.ensures.kept;
 }

@@ -37,14 +37,14 @@ node-requires g c =
       out = omega (arith, c.requires.scratch);
     }
 
-pub returns-then-is-settled : goal.returns-then-is-settled
-returns-then-is-settled g c = record {
+pub returns-then-is_settled : goal.returns-then-is_settled
+returns-then-is_settled g c = record {
   says = λ S s.
       let p = c.args.p in
       let q = c.args.q in
       let l = read_sig _ _ _ s p c.requires.left _ _ c.ranked-left.ensures c.signature.ensures.is in
       let r = read_sig _ _ _ s q c.requires.right _ _ c.ranked-right.ensures c.signature-2.ensures.is in
-      let k = c.is-settled.ensures.yes c.if-is-settled.true in
+      let k = c.is_settled.ensures.yes c.if-is_settled.true in
       unchanged _ _ _ s _ (settled_covers _ S _ s c.find-k.result (omega (arith, k.0, s.rows)) k.1 (node c.args.mark (at S p) (at S q))
       (c.requires.mark, rank_marked _ _ _ s p c.requires.left, rank_marked _ _ _ s q c.requires.right)
       (c.find-k.ensures.found k.0 ∙ by_parts (g.A.Automaton.meaning c.args.a.now).on_node _ _ _ _ _ _ c.node.ensures l r));
@@ -70,16 +70,16 @@ returns g c = record {
       let q = c.args.q in
       let l = read_sig _ _ _ s p c.requires.left _ _ c.ranked-left.ensures c.signature.ensures.is in
       let r = read_sig _ _ _ s q c.requires.right _ _ c.ranked-right.ensures c.signature-2.ensures.is in
-      let copied = ap value c.copy-from-slice.ensures.after ∙ ap (λ (x : Link). x.size) c.tree.ensures.is in
-      let words : length c.copy-from-slice.new.self ≡ c.args.table.now.shape.words = ap length c.copy-from-slice.ensures.after ∙ c.tree.ensures.size in
+      let copied = ap value c.copy_from_slice.ensures.after ∙ ap (λ (x : Link). x.size) c.tree.ensures.is in
+      let words : length c.copy_from_slice.new.self ≡ c.args.table.now.shape.words = ap length c.copy_from_slice.ensures.after ∙ c.tree.ensures.size in
       let a = read_size _ _ _ s p c.requires.left _ _ c.ranked-left.ensures copied in
       let b = read_size _ _ _ s q c.requires.right _ _ c.ranked-right.ensures (ap (λ (x : Link). x.size) c.tree-2.ensures.is) in
-      let fits : size (at S p) + size (at S q) + 1 < weight (length c.copy-from-slice.new.self) = rw words (node_size_fits _ _ _ s p q c.requires.left c.requires.right) in
-      c.take-up.ensures.says _ S s (node c.args.mark (at S p) (at S q)) (record {
+      let fits : size (at S p) + size (at S q) + 1 < weight (length c.copy_from_slice.new.self) = rw words (node_size_fits _ _ _ s p q c.requires.left c.requires.right) in
+      c.take_up.ensures.says _ S s (node c.args.mark (at S p) (at S q)) (record {
         marked = (c.requires.mark, rank_marked _ _ _ s p c.requires.left, rank_marked _ _ _ s q c.requires.right);
         signed = sym (by_parts (g.A.Automaton.meaning c.args.a.now).on_node _ _ _ _ _ _ c.node.ensures l r);
         sized = node_size _ c.add.result _ _ _ _ _ c.add.ensures a b fits;
         linked = (refl, placed _ _ _ s p c.requires.left, placed _ _ _ s q c.requires.right);
       });
-  kept = c.take-up.ensures.kept;
+  kept = c.take_up.ensures.kept;
 }

@@ -5,8 +5,8 @@ use Rattle.reach.proofs.offer_pairs.Goals as goal
 pub loop-i-init : goal.loop-i-init
 loop-i-init g c = (kept_none _, no_step _ _ _ (λ S us j h. absurd (omega arith)))
 
-pub offer-both-requires : goal.offer-both-requires
-offer-both-requires g c = record {
+pub offer_both-requires : goal.offer_both-requires
+offer_both-requires g c = record {
   ready = c.requires.ready;
   mark = c.requires.mark;
   left = omega (arith, c.loop-i.invariant.0.settled, c.requires.rank);
@@ -15,20 +15,20 @@ offer-both-requires g c = record {
   scratch = scratch_same _ _ _ _ _ _ _ c.requires.scratch (omega arith) (omega arith) c.loop-i.invariant.0.shape;
 }
 
-pub returns-then-not-offer-both : goal.returns-then-not-offer-both
-returns-then-not-offer-both g c = record {
-  says = overflows _ _ _ _ c.loop-i.invariant.1 c.loop-i.invariant.0 c.if-not-offer-both.ensures.says;
-  kept = kept_then _ _ _ c.loop-i.invariant.0 c.offer-both.ensures.kept;
+pub returns-then-not-offer_both : goal.returns-then-not-offer_both
+returns-then-not-offer_both g c = record {
+  says = overflows _ _ _ _ c.loop-i.invariant.1 c.loop-i.invariant.0 c.if-not-offer_both.ensures.says;
+  kept = kept_then _ _ _ c.loop-i.invariant.0 c.offer_both.ensures.kept;
 }
 
 pub loop-i-preserved : goal.loop-i-preserved
 loop-i-preserved g c = (
-  kept_then _ _ _ c.loop-i.invariant.0 c.offer-both.ensures.kept,
-  and_then _ _ _ _ _ _ _ c.loop-i.invariant.1 c.if-not-offer-both.ensures.says (λ S ts us p k q. pairs_more _ S ts us _ _ _ p k q),
+  kept_then _ _ _ c.loop-i.invariant.0 c.offer_both.ensures.kept,
+  and_then _ _ _ _ _ _ _ c.loop-i.invariant.1 c.if-not-offer_both.ensures.says (λ S ts us p k q. pairs_more _ S ts us _ _ _ p k q),
 )
 
-pub offer-node-requires : goal.offer-node-requires
-offer-node-requires g c = record {
+pub offer_node-requires : goal.offer_node-requires
+offer_node-requires g c = record {
   ready = c.requires.ready;
   mark = c.requires.mark;
   left = omega (arith, c.loop-i.invariant.0.settled, c.requires.rank);
@@ -39,7 +39,7 @@ offer-node-requires g c = record {
 
 pub returns : goal.returns
 returns g c = record {
-  says = offered_then _ _ _ _ _ _ _ c.offer-node.result c.loop-i.invariant.1 c.loop-i.invariant.0 c.offer-node.ensures.says
+  says = offered_then _ _ _ _ _ _ _ c.offer_node.result c.loop-i.invariant.1 c.loop-i.invariant.0 c.offer_node.ensures.says
       (λ S ts us p k q. pairs_more _ S ts us _ _ _ (λ j h. p j (omega arith)) k (q, q));
-  kept = kept_then _ _ _ c.loop-i.invariant.0 c.offer-node.ensures.kept;
+  kept = kept_then _ _ _ c.loop-i.invariant.0 c.offer_node.ensures.kept;
 }

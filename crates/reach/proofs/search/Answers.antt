@@ -4,24 +4,24 @@ use Rattle.reach.proofs.Steps.{overflown, scratch_same}
 use Rattle.reach.proofs.Settling.{no_rows, first_turn, rank_free, settled_searching, next_turn, finished}
 use Rattle.reach.proofs.search.Goals as goal
 
-pub offer-leaves-requires : goal.offer-leaves-requires
-offer-leaves-requires g c = record {
+pub offer_leaves-requires : goal.offer_leaves-requires
+offer_leaves-requires g c = record {
   ready = c.requires.ready;
   alphabet = c.requires.alphabet;
   searching = record { settled_list = []; state = no_rows _ _ c.reset.ensures.empty c.reset.ensures.room c.reset.ensures.chains };
   scratch = scratch_same _ _ _ _ _ _ _ c.requires.scratch refl refl c.reset.ensures.shape;
 }
 
-pub returns-then-not-offer-leaves : goal.returns-then-not-offer-leaves
-returns-then-not-offer-leaves g c = record {
-  finds = overflown _ _ c.offer-leaves.new.table.shape c.if-not-offer-leaves.ensures.says c.offer-leaves.ensures.kept.shape
+pub returns-then-not-offer_leaves : goal.returns-then-not-offer_leaves
+returns-then-not-offer_leaves g c = record {
+  finds = overflown _ _ c.offer_leaves.new.table.shape c.if-not-offer_leaves.ensures.says c.offer_leaves.ensures.kept.shape
       (record { settled_list = []; state = no_rows _ _ c.reset.ensures.empty c.reset.ensures.room c.reset.ensures.chains });
-  shape = c.offer-leaves.ensures.kept.shape ∙ c.reset.ensures.shape;
+  shape = c.offer_leaves.ensures.kept.shape ∙ c.reset.ensures.shape;
 }
 
 pub loop-k-init : goal.loop-k-init
 loop-k-init g c =
-    (refl, first_turn _ _ _ (no_rows _ _ c.reset.ensures.empty c.reset.ensures.room c.reset.ensures.chains) c.if-not-offer-leaves.ensures.says)
+    (refl, first_turn _ _ _ (no_rows _ _ c.reset.ensures.empty c.reset.ensures.room c.reset.ensures.chains) c.if-not-offer_leaves.ensures.says)
 
 pub settle-requires : goal.settle-requires
 settle-requires g c =
@@ -33,8 +33,8 @@ settle-requires g c =
       rank = rank_free _ _ u c.in-Some.k least;
     }
 
-pub offer-nodes-requires : goal.offer-nodes-requires
-offer-nodes-requires g c =
+pub offer_nodes-requires : goal.offer_nodes-requires
+offer_nodes-requires g c =
     let u = c.loop-k.invariant.1 in
     record {
       ready = c.requires.ready;
@@ -42,35 +42,35 @@ offer-nodes-requires g c =
       rank = omega (arith, c.settle.ensures.settles.settled_is);
       searching = settled_searching _ _ u c.settle.new.self c.in-Some.k c.in-Some.ensures c.settle.ensures.settles c.settle.ensures.room (c.settle.ensures.chains u.state.chains);
       scratch = scratch_same _ _ _ _ _ _ _ c.requires.scratch (omega arith) (omega arith)
-          (c.settle.ensures.settles.same_shape ∙ (c.loop-k.invariant.0 ∙ (c.offer-leaves.ensures.kept.shape ∙ c.reset.ensures.shape)));
+          (c.settle.ensures.settles.same_shape ∙ (c.loop-k.invariant.0 ∙ (c.offer_leaves.ensures.kept.shape ∙ c.reset.ensures.shape)));
     }
 
-pub returns-then-not-offer-nodes : goal.returns-then-not-offer-nodes
-returns-then-not-offer-nodes g c =
+pub returns-then-not-offer_nodes : goal.returns-then-not-offer_nodes
+returns-then-not-offer_nodes g c =
     let u = c.loop-k.invariant.1 in
     record {
-      finds = overflown (g.A.Automaton.meaning c.args.a.now) c.settle.new.self c.offer-nodes.new.table.shape c.if-not-offer-nodes.ensures.says c.offer-nodes.ensures.kept.shape
+      finds = overflown (g.A.Automaton.meaning c.args.a.now) c.settle.new.self c.offer_nodes.new.table.shape c.if-not-offer_nodes.ensures.says c.offer_nodes.ensures.kept.shape
           (settled_searching _ _ u c.settle.new.self c.in-Some.k c.in-Some.ensures c.settle.ensures.settles c.settle.ensures.room (c.settle.ensures.chains u.state.chains));
-      shape = c.offer-nodes.ensures.kept.shape
-          ∙ (c.settle.ensures.settles.same_shape ∙ (c.loop-k.invariant.0 ∙ (c.offer-leaves.ensures.kept.shape ∙ c.reset.ensures.shape)));
+      shape = c.offer_nodes.ensures.kept.shape
+          ∙ (c.settle.ensures.settles.same_shape ∙ (c.loop-k.invariant.0 ∙ (c.offer_leaves.ensures.kept.shape ∙ c.reset.ensures.shape)));
     }
 
 pub loop-k-smaller : goal.loop-k-smaller
 loop-k-smaller g c =
     let u = c.loop-k.invariant.1 in
-    let same = ap (λ (sh : Shape). sh.most) (c.offer-nodes.ensures.kept.shape ∙ c.settle.ensures.settles.same_shape) in
-    omega (arith, same, c.offer-nodes.ensures.kept.settled, c.settle.ensures.settles.settled_is, rank_free _ _ u c.in-Some.k c.in-Some.ensures)
+    let same = ap (λ (sh : Shape). sh.most) (c.offer_nodes.ensures.kept.shape ∙ c.settle.ensures.settles.same_shape) in
+    omega (arith, same, c.offer_nodes.ensures.kept.settled, c.settle.ensures.settles.settled_is, rank_free _ _ u c.in-Some.k c.in-Some.ensures)
 
 pub loop-k-preserved : goal.loop-k-preserved
 loop-k-preserved g c =
     let u = c.loop-k.invariant.1 in (
-      c.offer-nodes.ensures.kept.shape ∙ (c.settle.ensures.settles.same_shape ∙ c.loop-k.invariant.0),
-      next_turn _ _ u c.settle.new.self c.in-Some.k c.in-Some.ensures c.settle.ensures.settles c.settle.ensures.room (c.settle.ensures.chains u.state.chains) c.offer-nodes.new.table
-          c.if-not-offer-nodes.ensures.says,
+      c.offer_nodes.ensures.kept.shape ∙ (c.settle.ensures.settles.same_shape ∙ c.loop-k.invariant.0),
+      next_turn _ _ u c.settle.new.self c.in-Some.k c.in-Some.ensures c.settle.ensures.settles c.settle.ensures.room (c.settle.ensures.chains u.state.chains) c.offer_nodes.new.table
+          c.if-not-offer_nodes.ensures.says,
     )
 
 pub returns : goal.returns
 returns g c = record {
-  finds = finished _ _ c.loop-k.invariant.1 c.in-default.ensures;
-  shape = c.loop-k.invariant.0 ∙ (c.offer-leaves.ensures.kept.shape ∙ c.reset.ensures.shape);
+  finds = finished _ _ c.loop-k.invariant.1 c.in_default.ensures;
+  shape = c.loop-k.invariant.0 ∙ (c.offer_leaves.ensures.kept.shape ∙ c.reset.ensures.shape);
 }

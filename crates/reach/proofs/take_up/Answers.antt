@@ -14,19 +14,19 @@ returns-then-k-table-2 c = record {
   kept = record { shape = c.insert.ensures.put.same_shape; settled = c.insert.ensures.put.same_settled };
 }
 
-pub returns-then-is-better : goal.returns-then-is-better
-returns-then-is-better c = record {
+pub returns-then-is_better : goal.returns-then-is_better
+returns-then-is_better c = record {
   says = λ A S s x d.
-      let u = c.is-better.ensures.yes c.if-is-better.true in
+      let u = c.is_better.ensures.yes c.if-is_better.true in
       better A S _ s _ _ x d c.args.k c.requires.located (omega (arith, c.requires.located.within)) _ u.0 u.1 c.replace.ensures.put
       c.replace.ensures.count c.replace.ensures.room (c.replace.ensures.chains c.requires.chains);
   kept = record { shape = c.replace.ensures.put.same_shape; settled = c.replace.ensures.put.same_settled };
 }
 
-pub returns-else-is-better : goal.returns-else-is-better
-returns-else-is-better c = record {
+pub returns-else-is_better : goal.returns-else-is_better
+returns-else-is_better c = record {
   says = λ A S s x d.
       unchanged A S _ s _ (nothing_new A S _ s _ _ x d c.args.k c.requires.located (omega (arith, c.requires.located.within))
-      (c.is-better.ensures.not c.if-is-better.false));
+      (c.is_better.ensures.not c.if-is_better.false));
   kept = record { shape = refl; settled = refl };
 }

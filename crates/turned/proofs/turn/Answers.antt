@@ -4,18 +4,18 @@ use Rattle.model.proofs.Prefix.{row_laws}
 use Rattle.turned.proofs.FilledIn.{filling_laws}
 use Rattle.turned.proofs.turn.Goals as goal
 
-pub returns-then-is-small : goal.returns-then-is-small
-returns-then-is-small c = record {
+pub returns-then-is_small : goal.returns-then-is_small
+returns-then-is_small c = record {
   says = refl;
-  small = (λ _. refl, λ _. c.is-small.ensures.1 c.if-is-small.true);
+  small = (λ _. refl, λ _. c.is_small.ensures.1 c.if-is_small.true);
   rows_say_one = row_laws;
   filling = filling_laws;
 }
 
 pub returns : goal.returns
 returns c = record {
-  says = c.turn-with.ensures.says;
-  small = (λ h. absurd (true≢false (sym (c.is-small.ensures.0 h) ∙ c.if-is-small.false)), λ e. absurd (c.turn-with.ensures.large e));
+  says = c.turn_with.ensures.says;
+  small = (λ h. absurd (true≢false (sym (c.is_small.ensures.0 h) ∙ c.if-is_small.false)), λ e. absurd (c.turn_with.ensures.large e));
   rows_say_one = row_laws;
   filling = filling_laws;
 }

@@ -6,12 +6,12 @@ use Rattle.signatures.proofs.ParsedJobs.{rows_found}
 use Rattle.verdict.proofs.Reading.{found_holds, few_classes, none_read, first_read}
 use Rattle.verdict.proofs.conclude.Goals as goal
 
-pub returns-in-default : goal.returns-in-default
-returns-in-default c =
+pub returns-in_default : goal.returns-in_default
+returns-in_default c =
     let j = job_of c.args.a in
     let w = (rows_found c.args.a c.requires.known).well_formed in
     let t = c.args.table.now in
-    record { few = few_classes j w t c.requires.found; fits = none_read j w t c.requires.found c.in-default.ensures; kept = refl }
+    record { few = few_classes j w t c.requires.found; fits = none_read j w t c.requires.found c.in_default.ensures; kept = refl }
 
 pub show-requires : goal.show-requires
 show-requires c = record {

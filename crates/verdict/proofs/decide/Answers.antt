@@ -11,10 +11,10 @@ pub returns-in-TooMany : goal.returns-in-TooMany
 returns-in-TooMany c j rows =
     let known = rows_found c.args.a c.requires.known in
     let most = c.search.new.table.shape.most in
-    decides_as c.args.a.job.now (job_of c.args.a) j known rows most c.args.most (ap (λ (s : Shape). s.most) c.search.ensures.shape ∙ c.lay-out-table.ensures.most) _ _ Many
+    decides_as c.args.a.job.now (job_of c.args.a) j known rows most c.args.most (ap (λ (s : Shape). s.most) c.search.ensures.shape ∙ c.lay_out-table.ensures.most) _ _ Many
     (more_classes (job_of c.args.a) known.well_formed most c.in-TooMany.ensures.finds.longer, refl)
 
 pub returns-in-All : goal.returns-in-All
 returns-in-All c j rows =
     decides_as c.args.a.job.now (job_of c.args.a) j (rows_found c.args.a c.requires.known) rows c.search.new.table.shape.most c.args.most
-    (ap (λ (s : Shape). s.most) c.search.ensures.shape ∙ c.lay-out-table.ensures.most) _ _ c.conclude.result c.conclude.ensures
+    (ap (λ (s : Shape). s.most) c.search.ensures.shape ∙ c.lay_out-table.ensures.most) _ _ c.conclude.result c.conclude.ensures

@@ -9,13 +9,13 @@ returns-then-deep-eq0 t c = none_deep c.args.words.now c.args.at c.args.deep c.a
 pub returns-then-a-b-2 : goal.returns-then-a-b-2
 returns-then-a-b-2 t c = none_mark c.args.words.now c.args.at c.args.deep c.args.b c.in-Node.a (as_step _ _ _ _ c.in-Node.is c.in-Some.ensures) c.if-a-b-2.true
 
-pub returns-in-default-pattern-end : goal.returns-in-default-pattern-end
-returns-in-default-pattern-end t c = none_first c.args.words.now c.args.at c.args.deep c.args.b c.in-Node.a (as_step _ _ _ _ c.in-Node.is c.in-Some.ensures) c.in-default-pattern-end.ensures
+pub returns-in_default-pattern_end : goal.returns-in_default-pattern_end
+returns-in_default-pattern_end t c = none_first c.args.words.now c.args.at c.args.deep c.args.b c.in-Node.a (as_step _ _ _ _ c.in-Node.is c.in-Some.ensures) c.in_default-pattern_end.ensures
 
-pub returns-in-default-pattern-end-2 : goal.returns-in-default-pattern-end-2
-returns-in-default-pattern-end-2 t c =
+pub returns-in_default-pattern_end-2 : goal.returns-in_default-pattern_end-2
+returns-in_default-pattern_end-2 t c =
     none_second c.args.words.now c.args.at c.args.deep c.args.b c.in-Node.a (as_step _ _ _ _ c.in-Node.is c.in-Some.ensures)
-    c.in-Some-pattern-end.mid c.in-Some-pattern-end.ensures c.in-default-pattern-end-2.ensures
+    c.in-Some-pattern_end.mid c.in-Some-pattern_end.ensures c.in_default-pattern_end-2.ensures
 
 pub returns-then-a-b : goal.returns-then-a-b
 returns-then-a-b t c = some_leaf c.args.words.now c.args.at c.args.deep c.args.b c.in-Leaf.a (as_step _ _ _ _ c.in-Leaf.is c.in-Some.ensures) (omega arith) c.if-a-b.true
@@ -31,7 +31,7 @@ returns-else-b t c =
     none_made c.args.words.now c.args.at c.args.deep c.args.b c.in-Made.q c.in-Made.-part (as_step _ _ _ _ c.in-Made.is c.in-Some.ensures)
     (elim c.else-b.branch [ else-b-via-then-b+else-q-b w ↦ inr w.if-q-b.false | else-b-via-else-b w ↦ inl w.if-b.false ])
 
-pub returns-in-Some-pattern-end-2 : goal.returns-in-Some-pattern-end-2
-returns-in-Some-pattern-end-2 t c =
+pub returns-in-Some-pattern_end-2 : goal.returns-in-Some-pattern_end-2
+returns-in-Some-pattern_end-2 t c =
     some_node c.args.words.now c.args.at c.args.deep c.args.b c.in-Node.a (as_step _ _ _ _ c.in-Node.is c.in-Some.ensures)
-    c.in-Some-pattern-end.mid c.in-Some-pattern-end.ensures c.in-Some-pattern-end-2.end (omega arith) c.if-a-b-2.false c.in-Some-pattern-end-2.ensures
+    c.in-Some-pattern_end.mid c.in-Some-pattern_end.ensures c.in-Some-pattern_end-2.end (omega arith) c.if-a-b-2.false c.in-Some-pattern_end-2.ensures

@@ -1,4 +1,4 @@
 use Rattle.rows.proofs.patterns.+pattern_end.Given as goal
 
-abbrev pub decreases-pattern-end : goal.decreases-pattern-end
-decreases-pattern-end l = l.deep
+abbrev pub decreases-pattern_end : goal.decreases-pattern_end
+decreases-pattern_end l = l.deep

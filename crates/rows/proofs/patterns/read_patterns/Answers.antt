@@ -7,10 +7,10 @@ pub loop-i-init : goal.loop-i-init
 loop-i-init c = none_yet _ _ _ _ _ c.requires.start
 
 pub loop-i-preserved : goal.loop-i-preserved
-loop-i-preserved c = one_more _ _ _ _ _ _ c.args.count _ _ c.loop-i.invariant _ _ c.in-Some.ensures c.set-number.ensures
+loop-i-preserved c = one_more _ _ _ _ _ _ c.args.count _ _ c.loop-i.invariant _ _ c.in-Some.ensures c.set_number.ensures
 
-pub returns-in-default : goal.returns-in-default
-returns-in-default c = none_next _ _ _ _ _ _ c.args.count _ _ c.loop-i.invariant (omega arith) c.in-default.ensures
+pub returns-in_default : goal.returns-in_default
+returns-in_default c = none_next _ _ _ _ _ _ c.args.count _ _ c.loop-i.invariant (omega arith) c.in_default.ensures
 
 pub returns : goal.returns
 returns c =

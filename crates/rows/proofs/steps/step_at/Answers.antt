@@ -28,10 +28,10 @@ returns-in-0-words c = three _ _ _ _ _ (omega arith) c.in-2.is refl c.in-0-words
 pub returns-in-1-words : goal.returns-in-1-words
 returns-in-1-words c = three _ _ _ _ _ (omega arith) c.in-2.is refl c.in-1-words.is
 
-pub returns-in-default-words : goal.returns-in-default-words
-returns-in-default-words c p rest u e =
+pub returns-in_default-words : goal.returns-in_default-words
+returns-in_default-words c p rest u e =
     let o = opening c.args.words.now c.args.at p rest e in omega (arith, o.part c.in-2.is)
 
-pub returns-in-default : goal.returns-in-default
-returns-in-default c p rest u e =
+pub returns-in_default : goal.returns-in_default
+returns-in_default c p rest u e =
     let o = opening c.args.words.now c.args.at p rest e in omega (arith, o.first)

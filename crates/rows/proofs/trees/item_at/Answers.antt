@@ -9,5 +9,5 @@ returns-in-0 c = two _ _ _ _ c.requires c.in-0.is refl
 pub returns-in-1 : goal.returns-in-1
 returns-in-1 c = two _ _ _ _ c.requires c.in-1.is refl
 
-pub returns-in-default : goal.returns-in-default
-returns-in-default c = none_item c.args.tree.now (2 * c.args.i) (omega arith)
+pub returns-in_default : goal.returns-in_default
+returns-in_default c = none_item c.args.tree.now (2 * c.args.i) (omega arith)

@@ -9,7 +9,7 @@ pub returns-then-a-marks : goal.returns-then-a-marks
 returns-then-a-marks c = none_leaf (type_in c.args.words.now c.args.marks c.args.t) c.args.marks c.args.tree.now c.args.i c.in-Leaf.a (as_item _ _ _ _ c.in-Leaf.is c.in-Some.ensures) c.if-a-marks.true
 
 pub returns-else-a-marks : goal.returns-else-a-marks
-returns-else-a-marks c = some_leaf (type_in c.args.words.now c.args.marks c.args.t) c.args.marks c.args.tree.now c.args.i c.in-Leaf.a _ (as_item _ _ _ _ c.in-Leaf.is c.in-Some.ensures) c.if-a-marks.false c.leaf-kind-kind.ensures.value
+returns-else-a-marks c = some_leaf (type_in c.args.words.now c.args.marks c.args.t) c.args.marks c.args.tree.now c.args.i c.in-Leaf.a _ (as_item _ _ _ _ c.in-Leaf.is c.in-Some.ensures) c.if-a-marks.false c.leaf_kind-kind.ensures.value
 
 pub returns-then-a-marks-2 : goal.returns-then-a-marks-2
 returns-then-a-marks-2 c =
@@ -21,13 +21,13 @@ returns-then-a-marks-2 c =
 
 pub returns-then-right-count : goal.returns-then-right-count
 returns-then-right-count c =
-    let left = left_part (type_in c.args.words.now c.args.marks c.args.t) c.args.marks c.args.tree.now c.args.ends.now c.args.kinds.now c.args.i c.number-at-right.result c.requires.behind c.number-at-right.ensures (omega arith) in
+    let left = left_part (type_in c.args.words.now c.args.marks c.args.t) c.args.marks c.args.tree.now c.args.ends.now c.args.kinds.now c.args.i c.number_at-right.result c.requires.behind c.number_at-right.ensures (omega arith) in
     none_right (type_in c.args.words.now c.args.marks c.args.t) c.args.marks c.args.tree.now c.args.i c.in-Node.a (as_item _ _ _ _ c.in-Node.is c.in-Some.ensures) _ _ left (omega arith)
 
-pub node-kind-kind-requires : goal.node-kind-kind-requires
-node-kind-kind-requires c =
-    let left = left_part (type_in c.args.words.now c.args.marks c.args.t) c.args.marks c.args.tree.now c.args.ends.now c.args.kinds.now c.args.i c.number-at-right.result c.requires.behind c.number-at-right.ensures (omega arith) in
-    let right = right_part (type_in c.args.words.now c.args.marks c.args.t) c.args.marks c.args.tree.now c.args.ends.now c.args.kinds.now c.args.i c.number-at-right.result c.requires.behind _ left (omega arith) in
+pub node_kind-kind-requires : goal.node_kind-kind-requires
+node_kind-kind-requires c =
+    let left = left_part (type_in c.args.words.now c.args.marks c.args.t) c.args.marks c.args.tree.now c.args.ends.now c.args.kinds.now c.args.i c.number_at-right.result c.requires.behind c.number_at-right.ensures (omega arith) in
+    let right = right_part (type_in c.args.words.now c.args.marks c.args.t) c.args.marks c.args.tree.now c.args.ends.now c.args.kinds.now c.args.i c.number_at-right.result c.requires.behind _ left (omega arith) in
     let w = c.requires.known.ok.well_formed in
     record {
       known = c.requires.known;
@@ -38,6 +38,6 @@ node-kind-kind-requires c =
 
 pub returns-else-right-count : goal.returns-else-right-count
 returns-else-right-count c =
-    let left = left_part (type_in c.args.words.now c.args.marks c.args.t) c.args.marks c.args.tree.now c.args.ends.now c.args.kinds.now c.args.i c.number-at-right.result c.requires.behind c.number-at-right.ensures (omega arith) in
-    let right = right_part (type_in c.args.words.now c.args.marks c.args.t) c.args.marks c.args.tree.now c.args.ends.now c.args.kinds.now c.args.i c.number-at-right.result c.requires.behind _ left (omega arith) in
-    some_node (type_in c.args.words.now c.args.marks c.args.t) c.args.marks c.args.tree.now c.args.i c.in-Node.a (as_item _ _ _ _ c.in-Node.is c.in-Some.ensures) _ _ left _ _ _ c.if-a-marks-2.false (subst (λ (z : ℕ). SubtreeAt (type_in c.args.words.now c.args.marks c.args.t) c.args.marks c.args.tree.now c.number-at-right.result z (get_or c.args.kinds.now c.number-at-right.result 0)) (sym c.number-at-end.ensures) right) c.node-kind-kind.ensures.value
+    let left = left_part (type_in c.args.words.now c.args.marks c.args.t) c.args.marks c.args.tree.now c.args.ends.now c.args.kinds.now c.args.i c.number_at-right.result c.requires.behind c.number_at-right.ensures (omega arith) in
+    let right = right_part (type_in c.args.words.now c.args.marks c.args.t) c.args.marks c.args.tree.now c.args.ends.now c.args.kinds.now c.args.i c.number_at-right.result c.requires.behind _ left (omega arith) in
+    some_node (type_in c.args.words.now c.args.marks c.args.t) c.args.marks c.args.tree.now c.args.i c.in-Node.a (as_item _ _ _ _ c.in-Node.is c.in-Some.ensures) _ _ left _ _ _ c.if-a-marks-2.false (subst (λ (z : ℕ). SubtreeAt (type_in c.args.words.now c.args.marks c.args.t) c.args.marks c.args.tree.now c.number_at-right.result z (get_or c.args.kinds.now c.number_at-right.result 0)) (sym c.number_at-end.ensures) right) c.node_kind-kind.ensures.value

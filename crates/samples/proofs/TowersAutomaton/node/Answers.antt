@@ -10,4 +10,4 @@ pub bounds-right-0 : goal.bounds-right-0
 bounds-right-0 c = omega (arith, one_word (towers c.args.self.now.heights) (λ a. refl) (λ a s t. refl) _ c.requires.right)
 
 pub returns : goal.returns
-returns c = set_one c.args.out.now _ _ c.requires.out c.tower-node.ensures
+returns c = set_one c.args.out.now _ _ c.requires.out c.tower_node.ensures

@@ -7,10 +7,10 @@ use Rattle.table.proofs.Table.insert.Goals as goal
 pub returns : goal.returns
 returns c = record {
   put = record {
-    here_sig = c.write-row.ensures.here;
-    here_tree = same_tree c.write-row-2.ensures.here c.write-row-3.ensures.here;
-    other_sigs = λ j n. c.write-row.ensures.others j n;
-    other_trees = λ j n. same_tree (c.write-row-2.ensures.others j n) (c.write-row-3.ensures.others j n);
+    here_sig = c.write_row.ensures.here;
+    here_tree = same_tree c.write_row-2.ensures.here c.write_row-3.ensures.here;
+    other_sigs = λ j n. c.write_row.ensures.others j n;
+    other_trees = λ j n. same_tree (c.write_row-2.ensures.others j n) (c.write_row-3.ensures.others j n);
     same_shape = refl;
     same_settled = refl;
     same_order = refl;
@@ -19,7 +19,7 @@ returns c = record {
   count = refl;
   chains = chain_inserted c.args.self.now.count c.hash-chain.result c.args.self.now.shape.width c.args.self.now.sigs.now _
       c.args.self.now.heads.now c.args.self.now.nexts.now c.args.key.now c.requires.chains c.hash-chain.ensures.is
-      c.hash-chain.ensures.below (omega (arith, c.requires.room.for_nexts)) c.write-row.ensures;
+      c.hash-chain.ensures.below (omega (arith, c.requires.room.for_nexts)) c.write_row.ensures;
   room = record {
     for_sigs = omega (arith, c.requires.room);
     for_sizes = omega (arith, c.requires.room);

@@ -6,9 +6,9 @@ pub returns : goal.returns
 returns c = record {
   put = record {
     here_sig = refl;
-    here_tree = same_tree c.write-row.ensures.here c.write-row-2.ensures.here;
+    here_tree = same_tree c.write_row.ensures.here c.write_row-2.ensures.here;
     other_sigs = λ j n. refl;
-    other_trees = λ j n. same_tree (c.write-row.ensures.others j n) (c.write-row-2.ensures.others j n);
+    other_trees = λ j n. same_tree (c.write_row.ensures.others j n) (c.write_row-2.ensures.others j n);
     same_shape = refl;
     same_settled = refl;
     same_order = refl;

@@ -3,8 +3,8 @@ use Rattle.terms.specs.Beginnings.{ReadTo}
 use Rattle.terms.specs.Progress.{left}
 use Rattle.terms.proofs.reader.read_term.Given as goal
 
-abbrev pub invariant-loop-to-come : goal.invariant-loop-to-come
-invariant-loop-to-come l = (vec_len l.words ≤ l.most) × ReadTo l.marks.count (vec_items l.words) l.to-come
+abbrev pub invariant-loop-to_come : goal.invariant-loop-to_come
+invariant-loop-to_come l = (vec_len l.words ≤ l.most) × ReadTo l.marks.count (vec_items l.words) l.to_come
 
-abbrev pub decreases-loop-to-come : goal.decreases-loop-to-come
-decreases-loop-to-come l = left l.reader
+abbrev pub decreases-loop-to_come : goal.decreases-loop-to_come
+decreases-loop-to_come l = left l.reader

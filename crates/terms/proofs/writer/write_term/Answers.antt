@@ -3,18 +3,18 @@ use Rattle.terms.specs.Beginnings.{ReadTo}
 use Rattle.terms.proofs.Steps.{started, read_on, all_read}
 use Rattle.terms.proofs.writer.write_term.Goals as goal
 
-pub loop-to-come-init : goal.loop-to-come-init
-loop-to-come-init c = (search rules, search rules, started _ [] refl)
+pub loop-to_come-init : goal.loop-to_come-init
+loop-to_come-init c = (search rules, search rules, started _ [] refl)
 
-pub loop-to-come-preserved : goal.loop-to-come-preserved
-loop-to-come-preserved c =
-    let P : Option ℕ → Type 0 = λ o. ReadTo c.args.marks.now.count (take c.loop-to-come.at c.args.words.now) o in
-    (search rules, search rules, read_on _ c.in-Some.more _ c.args.words.now c.loop-to-come.at (c.loop-to-come.at + 2) refl (search rules) (subst P c.in-Some.is c.loop-to-come.invariant.2) c.in-ok-to-come.ensures.row)
+pub loop-to_come-preserved : goal.loop-to_come-preserved
+loop-to_come-preserved c =
+    let P : Option ℕ → Type 0 = λ o. ReadTo c.args.marks.now.count (take c.loop-to_come.at c.args.words.now) o in
+    (search rules, search rules, read_on _ c.in-Some.more _ c.args.words.now c.loop-to_come.at (c.loop-to_come.at + 2) refl (search rules) (subst P c.in-Some.is c.loop-to_come.invariant.2) c.in-ok-to_come.ensures.row)
 
 pub returns : goal.returns
 returns c =
-    let P : Option ℕ → Type 0 = λ o. ReadTo c.args.marks.now.count (take c.loop-to-come.at c.args.words.now) o in
+    let P : Option ℕ → Type 0 = λ o. ReadTo c.args.marks.now.count (take c.loop-to_come.at c.args.words.now) o in
     record {
       bound = search rules;
-      tree = all_read _ c.loop-to-come.at _ (search rules) (subst P c.in-default.is c.loop-to-come.invariant.2);
+      tree = all_read _ c.loop-to_come.at _ (search rules) (subst P c.in_default.is c.loop-to_come.invariant.2);
     }

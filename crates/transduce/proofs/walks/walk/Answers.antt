@@ -28,29 +28,29 @@ steps-preserved-in-Made g c = (
 pub returns-then-left-eq0 : goal.returns-then-left-eq0
 returns-then-left-eq0 g c k = stopped c.args.src k _ _ _ _ _ (c.steps.invariant.1 k) c.if-left-eq0.true
 
-pub after-node-pos-requires : goal.after-node-pos-requires
-after-node-pos-requires g c = record { ready = (c.requires.known, (c.steps.invariant.1 c.requires.known).after, (c.steps.invariant.1 c.requires.known).pending); begun = c.in-Node.ensures }
+pub after_node-pos-requires : goal.after_node-pos-requires
+after_node-pos-requires g c = record { ready = (c.requires.known, (c.steps.invariant.1 c.requires.known).after, (c.steps.invariant.1 c.requires.known).pending); begun = c.in-Node.ensures }
 
 pub steps-preserved-in-Node : goal.steps-preserved-in-Node
 steps-preserved-in-Node g c = (
   let p = c.steps.invariant.1 c.requires.known in
-      pending_within c.args.src c.requires.known c.steps.frames c.after-node-pos.result _ (c.after-node-pos.ensures c.requires.known p.after p.pending).pending,
+      pending_within c.args.src c.requires.known c.steps.frames c.after_node-pos.result _ (c.after_node-pos.ensures c.requires.known p.after p.pending).pending,
   λ k.
       let p = c.steps.invariant.1 k in
-      let n = c.after-node-pos.ensures k p.after p.pending in
+      let n = c.after_node-pos.ensures k p.after p.pending in
       one_more c.args.src k _ _ _ _ _ p _ (1 ∷ c.in-Node.a ∷ []) n.more _ refl (omega arith) n.first n.pending (λ orig ws h. subst (g.S.Sink.holds c.put.new.self orig c.put.new.out) (append_assoc ws p.before _) (c.put.ensures orig (ws ++ p.before) (p.put orig ws h))),
 )
 
 pub returns-then-left-eq0-2 : goal.returns-then-left-eq0-2
 returns-then-left-eq0-2 g c k = stopped c.args.src k _ _ _ _ _ (c.steps.invariant.1 k) c.if-left-eq0-2.true
 
-pub after-leaf-requires : goal.after-leaf-requires
-after-leaf-requires g c = record { room = omega (arith, c.requires.room); ready = (c.requires.known, (c.steps.invariant.1 c.requires.known).after, (c.steps.invariant.1 c.requires.known).pending); begun = c.in-Leaf.ensures }
+pub after_leaf-requires : goal.after_leaf-requires
+after_leaf-requires g c = record { room = omega (arith, c.requires.room); ready = (c.requires.known, (c.steps.invariant.1 c.requires.known).after, (c.steps.invariant.1 c.requires.known).pending); begun = c.in-Leaf.ensures }
 
-pub returns-in-default : goal.returns-in-default
-returns-in-default g c k =
+pub returns-in_default : goal.returns-in_default
+returns-in_default g c k =
     let p = c.steps.invariant.1 k in
-    let n = c.in-default.ensures k p.after p.pending in
+    let n = c.in_default.ensures k p.after p.pending in
     finished c.args.src k _ _ _ _ _ p (0 ∷ c.in-Leaf.a ∷ [])
     (λ us. (orig ws : List ℕ) → g.S.Sink.holds c.args.sink.now orig c.args.out.now ws → g.S.Sink.holds c.put-in-Leaf.new.self orig c.put-in-Leaf.new.out (ws ++ us)) refl (omega arith) (n.first ∙ ap (λ (l : List ℕ). 0 ∷ c.in-Leaf.a ∷ l) n.goes_on) (λ orig ws h. subst (g.S.Sink.holds c.put-in-Leaf.new.self orig c.put-in-Leaf.new.out) (append_assoc ws p.before _) (c.put-in-Leaf.ensures orig (ws ++ p.before) (p.put orig ws h)))
 

@@ -3,8 +3,8 @@ use Rattle.std.proofs.lemmas.List.{length-set}
 use Rattle.verdict.proofs.Expanding.{leaf_taken, node_taken, rank_low, low_rest, top_positive, low_pushed}
 use Rattle.verdict.proofs.trees.expand.Goals as goal
 
-pub top-of-requires : goal.top-of-requires
-top-of-requires c =
+pub top_of-requires : goal.top_of-requires
+top_of-requires c =
     record { held = c.requires.held; rank = rank_low c.args.table.now.settled c.args.stack.now c.args.top c.requires.some c.requires.low }
 
 -- a node's rank is above that of its parts, so there is room below the top

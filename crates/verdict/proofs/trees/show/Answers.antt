@@ -8,8 +8,8 @@ returns-then-size-out c S held =
     let long = row_long S c.args.table.now held c.args.rank c.requires.rank c.ranked.result c.ranked.ensures (linkage c.tree.result) c.tree.ensures.is in
     (omega (arith, long, c.saturated-size.ensures), refl)
 
-pub write-tree-requires : goal.write-tree-requires
-write-tree-requires c = record {
+pub write_tree-requires : goal.write_tree-requires
+write_tree-requires c = record {
   held = c.requires.held;
   rank = c.requires.rank;
   stack = c.requires.stack;

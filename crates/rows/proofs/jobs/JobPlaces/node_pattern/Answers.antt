@@ -5,5 +5,5 @@ use Rattle.rows.proofs.jobs.JobPlaces.node_pattern.Goals as goal
 pub overflow-add-first : goal.overflow-add-first
 overflow-add-first c = omega (arith, mul-add-lt c.args.state c.args.self.marks c.args.mark c.args.self.turn.states c.requires.state c.requires.mark)
 
-pub number-at-requires : goal.number-at-requires
-number-at-requires c = omega (arith, mul-add-lt c.args.state c.args.self.marks c.args.mark c.args.self.turn.states c.requires.state c.requires.mark)
+pub number_at-requires : goal.number_at-requires
+number_at-requires c = omega (arith, mul-add-lt c.args.state c.args.self.marks c.args.mark c.args.self.turn.states c.requires.state c.requires.mark)

@@ -7,8 +7,8 @@ use Rattle.transduce.proofs.Entering.{item_within}
 use Rattle.transduce.proofs.Walking.{left_begins, right_begins}
 use Rattle.transduce.proofs.source.Source.part.Goals as goal
 
-pub number-at-requires : goal.number-at-requires
-number-at-requires c = omega (arith, item_within c.args.self c.requires.known (c.args.node + 1) c.requires.inner, c.requires.known.room)
+pub number_at-requires : goal.number_at-requires
+number_at-requires c = omega (arith, item_within c.args.self c.requires.known (c.args.node + 1) c.requires.inner, c.requires.known.room)
 
 pub returns-in-Left : goal.returns-in-Left
 returns-in-Left c k a x y st =
@@ -17,5 +17,5 @@ returns-in-Left c k a x y st =
 
 pub returns-in-Right : goal.returns-in-Right
 returns-in-Right c k a x y st =
-    subst (λ (d : Part). Begins c.args.self.tree.now (2 * c.number-at.result) (tree_row (part_tree d x y)) × (c.args.node < c.number-at.result)) (sym c.in-Right.is)
-    (right_begins c.args.self k c.args.node a x y st c.number-at.result c.number-at.ensures)
+    subst (λ (d : Part). Begins c.args.self.tree.now (2 * c.number_at.result) (tree_row (part_tree d x y)) × (c.args.node < c.number_at.result)) (sym c.in-Right.is)
+    (right_begins c.args.self k c.args.node a x y st c.number_at.result c.number_at.ensures)

@@ -1,5 +1,5 @@
 use Rattle.trial.proofs.jobs.Pattern.TheLaws.{the_size}
 use Rattle.trial.proofs.jobs.Pattern.+push_row.Given as goal
 
-abbrev pub decreases-push-row : goal.decreases-push-row
-decreases-push-row l = the_size l.self.now
+abbrev pub decreases-push_row : goal.decreases-push_row
+decreases-push_row l = the_size l.self.now
