@@ -11,7 +11,10 @@ import re
 import sys
 
 TOKEN = re.compile(r"(?<![\w'◌-])[A-Za-z_][\w']*(?:-[\w']+)+(?![\w'◌])")
-MADE = {'type_inv', 'in_default', 'well_formed', 'shared_slice_known', 'slice_known', 'items_fit', 'struct_known'}
+MADE = {
+    'type_inv', 'in_default', 'in_ok', 'in_err', 'well_formed', 'shared_slice_known', 'slice_known', 'items_fit', 'struct_known',
+    'overflow_add', 'overflow_sub', 'overflow_mul', 'overflow_cast', 'slice_bounds', 'offset_bounds',
+}
 
 
 def read(path):

@@ -51,17 +51,17 @@ returns-then-is_settled g c = record {
   kept = record { shape = refl; settled = refl };
 }
 
-pub overflow-cast-link : goal.overflow-cast-link
-overflow-cast-link g c = let s = c.requires.searching.state in omega (arith, rank_within _ _ _ s c.args.p c.requires.left, s.room.row_bits)
+pub overflow_cast-link : goal.overflow_cast-link
+overflow_cast-link g c = let s = c.requires.searching.state in omega (arith, rank_within _ _ _ s c.args.p c.requires.left, s.room.row_bits)
 
-pub overflow-add-link : goal.overflow-add-link
-overflow-add-link g c = let s = c.requires.searching.state in omega (arith, rank_within _ _ _ s c.args.p c.requires.left, s.room.row_bits)
+pub overflow_add-link : goal.overflow_add-link
+overflow_add-link g c = let s = c.requires.searching.state in omega (arith, rank_within _ _ _ s c.args.p c.requires.left, s.room.row_bits)
 
-pub overflow-cast-link-2 : goal.overflow-cast-link-2
-overflow-cast-link-2 g c = let s = c.requires.searching.state in omega (arith, rank_within _ _ _ s c.args.q c.requires.right, s.room.row_bits)
+pub overflow_cast-link-2 : goal.overflow_cast-link-2
+overflow_cast-link-2 g c = let s = c.requires.searching.state in omega (arith, rank_within _ _ _ s c.args.q c.requires.right, s.room.row_bits)
 
-pub overflow-add-link-2 : goal.overflow-add-link-2
-overflow-add-link-2 g c = let s = c.requires.searching.state in omega (arith, rank_within _ _ _ s c.args.q c.requires.right, s.room.row_bits)
+pub overflow_add-link-2 : goal.overflow_add-link-2
+overflow_add-link-2 g c = let s = c.requires.searching.state in omega (arith, rank_within _ _ _ s c.args.q c.requires.right, s.room.row_bits)
 
 pub returns : goal.returns
 returns g c = record {

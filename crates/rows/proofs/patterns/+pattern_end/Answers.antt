@@ -24,11 +24,11 @@ pub returns-else-a-b : goal.returns-else-a-b
 returns-else-a-b t c = none_leaf c.args.words.now c.args.at c.args.deep c.args.b c.in-Leaf.a (as_step _ _ _ _ c.in-Leaf.is c.in-Some.ensures) c.if-a-b.false
 
 pub returns-then-q-b : goal.returns-then-q-b
-returns-then-q-b t c = some_made c.args.words.now c.args.at c.args.deep c.args.b c.in-Made.q c.in-Made.-part (as_step _ _ _ _ c.in-Made.is c.in-Some.ensures) (omega arith) c.if-b.true c.if-q-b.true
+returns-then-q-b t c = some_made c.args.words.now c.args.at c.args.deep c.args.b c.in-Made.q c.in-Made._part (as_step _ _ _ _ c.in-Made.is c.in-Some.ensures) (omega arith) c.if-b.true c.if-q-b.true
 
 pub returns-else-b : goal.returns-else-b
 returns-else-b t c =
-    none_made c.args.words.now c.args.at c.args.deep c.args.b c.in-Made.q c.in-Made.-part (as_step _ _ _ _ c.in-Made.is c.in-Some.ensures)
+    none_made c.args.words.now c.args.at c.args.deep c.args.b c.in-Made.q c.in-Made._part (as_step _ _ _ _ c.in-Made.is c.in-Some.ensures)
     (elim c.else-b.branch [ else-b-via-then-b+else-q-b w ↦ inr w.if-q-b.false | else-b-via-else-b w ↦ inl w.if-b.false ])
 
 pub returns-in-Some-pattern_end-2 : goal.returns-in-Some-pattern_end-2

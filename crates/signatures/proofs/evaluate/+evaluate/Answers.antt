@@ -16,16 +16,16 @@ returns-in-Leaf t c p e = leaf_value c.args.a c.args.at c.args.deep c.args.left.
 pub returns-in-Made : goal.returns-in-Made
 returns-in-Made t c p e = part_value c.args.a c.args.at c.args.deep c.args.left.now c.args.right.now c.in-Made.state c.kind_of_part.result c.in-Made.part (as_step _ _ _ _ c.in-Made.is c.in-Some.ensures) c.kind_of_part.ensures p e
 
-pub overflow-sub-deep : goal.overflow-sub-deep
-overflow-sub-deep t c = (inner c.args.a c.args.at c.args.deep c.args.left.now c.args.right.now c.in-Node.mark (as_step _ _ _ _ c.in-Node.is c.in-Some.ensures) c.requires.stands.0 c.requires.stands.1).deeper
+pub overflow_sub-deep : goal.overflow_sub-deep
+overflow_sub-deep t c = (inner c.args.a c.args.at c.args.deep c.args.left.now c.args.right.now c.in-Node.mark (as_step _ _ _ _ c.in-Node.is c.in-Some.ensures) c.requires.stands.0 c.requires.stands.1).deeper
 
 pub evaluate-x-requires : goal.evaluate-x-requires
 evaluate-x-requires t c =
     let n = inner c.args.a c.args.at c.args.deep c.args.left.now c.args.right.now c.in-Node.mark (as_step _ _ _ _ c.in-Node.is c.in-Some.ensures) c.requires.stands.0 c.requires.stands.1 in
     (omega (arith, c.decreases, n.deeper), (c.requires.known, (n.first, n.first_ready)))
 
-pub overflow-sub-deep-in-Node : goal.overflow-sub-deep-in-Node
-overflow-sub-deep-in-Node t c = (inner c.args.a c.args.at c.args.deep c.args.left.now c.args.right.now c.in-Node.mark (as_step _ _ _ _ c.in-Node.is c.in-Some.ensures) c.requires.stands.0 c.requires.stands.1).deeper
+pub overflow_sub-deep-in-Node : goal.overflow_sub-deep-in-Node
+overflow_sub-deep-in-Node t c = (inner c.args.a c.args.at c.args.deep c.args.left.now c.args.right.now c.in-Node.mark (as_step _ _ _ _ c.in-Node.is c.in-Some.ensures) c.requires.stands.0 c.requires.stands.1).deeper
 
 pub evaluate-y-requires : goal.evaluate-y-requires
 evaluate-y-requires t c =

@@ -2,8 +2,8 @@ use Rattle.std.proofs.Common.{rules}
 use Rattle.table.proofs.Spacing.{row_fits}
 use Rattle.table.proofs.rows.row_of.Goals as goal
 
-pub offset-bounds-region-at : goal.offset-bounds-region-at
-offset-bounds-region-at c = let fits = row_fits c.args.width c.args.k c.args.rows _ c.requires.row c.requires.room in search rules
+pub offset_bounds-region-at : goal.offset_bounds-region-at
+offset_bounds-region-at c = let fits = row_fits c.args.width c.args.k c.args.rows _ c.requires.row c.requires.room in search rules
 
-pub slice-bounds-result-end : goal.slice-bounds-result-end
-slice-bounds-result-end c = let fits = row_fits c.args.width c.args.k c.args.rows _ c.requires.row c.requires.room in search rules
+pub slice_bounds-result-end : goal.slice_bounds-result-end
+slice_bounds-result-end c = let fits = row_fits c.args.width c.args.k c.args.rows _ c.requires.row c.requires.room in search rules

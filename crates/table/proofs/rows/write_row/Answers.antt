@@ -2,11 +2,11 @@ use Rattle.std.proofs.Common.{◌≡◌, arith, rules}
 use Rattle.table.proofs.Spacing.{row_fits, written}
 use Rattle.table.proofs.rows.write_row.Goals as goal
 
-pub offset-bounds-region-at : goal.offset-bounds-region-at
-offset-bounds-region-at c = let fits = row_fits c.args.width c.args.k c.args.rows _ c.requires.row c.requires.room in search rules
+pub offset_bounds-region-at : goal.offset_bounds-region-at
+offset_bounds-region-at c = let fits = row_fits c.args.width c.args.k c.args.rows _ c.requires.row c.requires.room in search rules
 
-pub slice-bounds-copy_from_slice-end : goal.slice-bounds-copy_from_slice-end
-slice-bounds-copy_from_slice-end c = let fits = row_fits c.args.width c.args.k c.args.rows _ c.requires.row c.requires.room in search rules
+pub slice_bounds-copy_from_slice-end : goal.slice_bounds-copy_from_slice-end
+slice_bounds-copy_from_slice-end c = let fits = row_fits c.args.width c.args.k c.args.rows _ c.requires.row c.requires.room in search rules
 
 pub returns : goal.returns
 returns c =

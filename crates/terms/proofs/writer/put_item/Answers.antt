@@ -9,7 +9,7 @@ returns-then-to_come-eq0 c = record {
       λ s g.
       whole _ c.args.to_come _ c.if-to_come-eq0.true
       (leaf_put _ c.args.to_come (c.args.to_come + 1) c.args.tag c.args.mark c.if-tag-eq0.true
-      c.in-ok-put_mark.ensures.below refl s g);
+      c.in_ok-put_mark.ensures.below refl s g);
 }
 
 pub returns-then-tag-eq0 : goal.returns-then-tag-eq0
@@ -20,7 +20,7 @@ returns-then-tag-eq0 c =
       row =
           λ s g.
           leaf_put _ (c.args.to_come - 1 + 1) (c.args.to_come + 1) c.args.tag c.args.mark c.if-tag-eq0.true
-          c.in-ok-put_mark.ensures.below e s g;
+          c.in_ok-put_mark.ensures.below e s g;
     }
 
 pub returns : goal.returns
@@ -32,5 +32,5 @@ returns c =
       row =
           λ s g.
           node_put _ (c.in-Some.more + 1) c.args.to_come c.args.tag c.args.mark one
-          c.in-ok-put_mark.ensures.below e s g;
+          c.in_ok-put_mark.ensures.below e s g;
     }

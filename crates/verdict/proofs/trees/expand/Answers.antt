@@ -13,11 +13,11 @@ positive c =
     let t = c.in-Node.ensures c.requires.held.0 c.requires.held.1 in
     top_positive c.args.table.now.settled c.args.stack.now c.args.top c.requires.some c.requires.low c.requires.room (omega (arith, t.1))
 
-pub overflow-sub-stack : goal.overflow-sub-stack
-overflow-sub-stack c = positive c
+pub overflow_sub-stack : goal.overflow_sub-stack
+overflow_sub-stack c = positive c
 
-pub overflow-sub-result : goal.overflow-sub-result
-overflow-sub-result c = positive c
+pub overflow_sub-result : goal.overflow_sub-result
+overflow_sub-result c = positive c
 
 pub returns-in-Leaf : goal.returns-in-Leaf
 returns-in-Leaf c = record {

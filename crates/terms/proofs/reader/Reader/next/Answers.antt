@@ -8,8 +8,8 @@ returns-then-to_come-eq0 c = record {
   falls = search rules;
   row =
       whole _ c.args.to_come _ c.if-to_come-eq0.true
-      (leaf_read _ c.args.to_come (c.args.to_come + 1) c.in-ok-mark.mark _ _
-      c.in-ok-put.ensures.after c.in-ok-mark.ensures.below refl c.requires.begins);
+      (leaf_read _ c.args.to_come (c.args.to_come + 1) c.in_ok-mark.mark _ _
+      c.in_ok-put.ensures.after c.in_ok-mark.ensures.below refl c.requires.begins);
 }
 
 pub returns-then-ne : goal.returns-then-ne
@@ -19,8 +19,8 @@ returns-then-ne c =
       bound = search rules;
       falls = search rules;
       row =
-          leaf_read _ (c.args.to_come - 1 + 1) (c.args.to_come + 1) c.in-ok-mark.mark _ _
-          c.in-ok-put.ensures.after c.in-ok-mark.ensures.below e c.requires.begins;
+          leaf_read _ (c.args.to_come - 1 + 1) (c.args.to_come + 1) c.in_ok-mark.mark _ _
+          c.in_ok-put.ensures.after c.in_ok-mark.ensures.below e c.requires.begins;
     }
 
 pub returns : goal.returns
@@ -30,6 +30,6 @@ returns c =
       bound = search rules;
       falls = search rules;
       row =
-          node_read _ (c.in-Some.more + 1) (c.args.to_come + 1) c.args.to_come c.in-ok-mark.mark _ _
-          c.in-ok-put-2.ensures.after c.in-ok-mark.ensures.below refl e c.requires.begins;
+          node_read _ (c.in-Some.more + 1) (c.args.to_come + 1) c.args.to_come c.in_ok-mark.mark _ _
+          c.in_ok-put-2.ensures.after c.in_ok-mark.ensures.below refl e c.requires.begins;
     }
