@@ -93,11 +93,11 @@ fn offer_leaf<A: Automaton>(
     size: &mut [u32],
     mark: u32,
 ) -> bool
-    requires ready { ready a.now }
-    requires mark { mark < (meaning a.now).marks }
-    requires searching { Searching (meaning a.now) table.old }
-    requires scratch { Scratch (wide a.now) key.old size.old table.old }
-    ensures says { Offered (meaning a.now) table.old table.new (λ S us. Covered (meaning a.now) us (leaf mark)) result }
+    requires ready { A.ready a.now }
+    requires mark { mark < (A.meaning a.now).marks }
+    requires searching { Searching (A.meaning a.now) table.old }
+    requires scratch { Scratch (A.wide a.now) key.old size.old table.old }
+    ensures says { Offered (A.meaning a.now) table.old table.new (λ S us. Covered (A.meaning a.now) us (leaf mark)) result }
     ensures kept { Kept table.old table.new }
 {
     a.leaf(mark, key);
@@ -118,13 +118,13 @@ fn offer_node<A: Automaton>(
     p: usize,
     q: usize,
 ) -> bool
-    requires ready { ready a.now }
-    requires mark { mark < (meaning a.now).marks }
+    requires ready { A.ready a.now }
+    requires mark { mark < (A.meaning a.now).marks }
     requires left { p < table.old.settled }
     requires right { q < table.old.settled }
-    requires searching { Searching (meaning a.now) table.old }
-    requires scratch { Scratch (wide a.now) key.old size.old table.old }
-    ensures says { Offered (meaning a.now) table.old table.new (λ S us. Covered (meaning a.now) us (node mark (at S p) (at S q))) result }
+    requires searching { Searching (A.meaning a.now) table.old }
+    requires scratch { Scratch (A.wide a.now) key.old size.old table.old }
+    ensures says { Offered (A.meaning a.now) table.old table.new (λ S us. Covered (A.meaning a.now) us (node mark (at S p) (at S q))) result }
     ensures kept { Kept table.old table.new }
 {
     let left = table.ranked(p);
@@ -151,13 +151,13 @@ fn offer_both<A: Automaton>(
     k: usize,
     i: usize,
 ) -> bool
-    requires ready { ready a.now }
-    requires mark { mark < (meaning a.now).marks }
+    requires ready { A.ready a.now }
+    requires mark { mark < (A.meaning a.now).marks }
     requires left { k < table.old.settled }
     requires right { i < table.old.settled }
-    requires searching { Searching (meaning a.now) table.old }
-    requires scratch { Scratch (wide a.now) key.old size.old table.old }
-    ensures says { Offered (meaning a.now) table.old table.new (λ S us. BothWays (meaning a.now) S us mark k i) result }
+    requires searching { Searching (A.meaning a.now) table.old }
+    requires scratch { Scratch (A.wide a.now) key.old size.old table.old }
+    ensures says { Offered (A.meaning a.now) table.old table.new (λ S us. BothWays (A.meaning a.now) S us mark k i) result }
     ensures kept { Kept table.old table.new }
 {
     if !offer_node(a, table, key, size, mark, k, i) {
@@ -175,12 +175,12 @@ fn offer_pairs<A: Automaton>(
     mark: u32,
     k: usize,
 ) -> bool
-    requires ready { ready a.now }
-    requires mark { mark < (meaning a.now).marks }
+    requires ready { A.ready a.now }
+    requires mark { mark < (A.meaning a.now).marks }
     requires rank { k < table.old.settled }
-    requires searching { Searching (meaning a.now) table.old }
-    requires scratch { Scratch (wide a.now) key.old size.old table.old }
-    ensures says { Offered (meaning a.now) table.old table.new (λ S us. (i : ℕ) → i < k + 1 → BothWays (meaning a.now) S us mark k i) result }
+    requires searching { Searching (A.meaning a.now) table.old }
+    requires scratch { Scratch (A.wide a.now) key.old size.old table.old }
+    ensures says { Offered (A.meaning a.now) table.old table.new (λ S us. (i : ℕ) → i < k + 1 → BothWays (A.meaning a.now) S us mark k i) result }
     ensures kept { Kept table.old table.new }
 {
     for i in 0..k {
@@ -199,12 +199,12 @@ fn offer_nodes<A: Automaton>(
     size: &mut [u32],
     k: usize,
 ) -> bool
-    requires ready { ready a.now }
-    requires alphabet { Alphabet (meaning a.now) (alphabet a.now) (markof a.now) }
+    requires ready { A.ready a.now }
+    requires alphabet { Alphabet (A.meaning a.now) (A.alphabet a.now) (A.markof a.now) }
     requires rank { k < table.old.settled }
-    requires searching { Searching (meaning a.now) table.old }
-    requires scratch { Scratch (wide a.now) key.old size.old table.old }
-    ensures says { Offered (meaning a.now) table.old table.new (λ S us. PairsCovered (meaning a.now) S us k) result }
+    requires searching { Searching (A.meaning a.now) table.old }
+    requires scratch { Scratch (A.wide a.now) key.old size.old table.old }
+    ensures says { Offered (A.meaning a.now) table.old table.new (λ S us. PairsCovered (A.meaning a.now) S us k) result }
     ensures kept { Kept table.old table.new }
 {
     for letter in 0..a.letters() {
@@ -218,11 +218,11 @@ fn offer_nodes<A: Automaton>(
 
 // Offers the leaf of every letter.
 fn offer_leaves<A: Automaton>(a: &A, table: &mut Table, key: &mut [u32], size: &mut [u32]) -> bool
-    requires ready { ready a.now }
-    requires alphabet { Alphabet (meaning a.now) (alphabet a.now) (markof a.now) }
-    requires searching { Searching (meaning a.now) table.old }
-    requires scratch { Scratch (wide a.now) key.old size.old table.old }
-    ensures says { Offered (meaning a.now) table.old table.new (λ S us. LeavesCovered (meaning a.now) us) result }
+    requires ready { A.ready a.now }
+    requires alphabet { Alphabet (A.meaning a.now) (A.alphabet a.now) (A.markof a.now) }
+    requires searching { Searching (A.meaning a.now) table.old }
+    requires scratch { Scratch (A.wide a.now) key.old size.old table.old }
+    ensures says { Offered (A.meaning a.now) table.old table.new (λ S us. LeavesCovered (A.meaning a.now) us) result }
     ensures kept { Kept table.old table.new }
 {
     for letter in 0..a.letters() {
@@ -238,11 +238,11 @@ fn offer_leaves<A: Automaton>(a: &A, table: &mut Table, key: &mut [u32], size: &
 // row is settled, and then every node that it makes possible is offered. `key` and `size` are room for one signature and one
 // size.
 pub fn search<A: Automaton>(a: &A, table: &mut Table, key: &mut [u32], size: &mut [u32]) -> Found
-    requires ready { ready a.now }
-    requires alphabet { Alphabet (meaning a.now) (alphabet a.now) (markof a.now) }
+    requires ready { A.ready a.now }
+    requires alphabet { Alphabet (A.meaning a.now) (A.alphabet a.now) (A.markof a.now) }
     requires room { Room table.old }
-    requires scratch { Scratch (wide a.now) key.old size.old table.old }
-    ensures finds { Finds (meaning a.now) table.new result }
+    requires scratch { Scratch (A.wide a.now) key.old size.old table.old }
+    ensures finds { Finds (A.meaning a.now) table.new result }
     ensures shape { table.new.shape ≡ table.old.shape }
 {
     table.reset();

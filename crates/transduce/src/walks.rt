@@ -114,7 +114,7 @@ pub fn walk<S: Sink>(
 ) -> bool
     requires known { SourceKnown src }
     requires room { 3 * length src.tree.now ≤ length frames.old }
-    ensures { (k : SourceKnown src.entry) → Walked src.entry k most (λ us. (orig ws : List ℕ) → holds sink.old orig out.old ws → holds sink.new orig out.new (ws ++ us)) result }
+    ensures { (k : SourceKnown src.entry) → Walked src.entry k most (λ us. (orig ws : List ℕ) → S.holds sink.old orig out.old ws → S.holds sink.new orig out.new (ws ++ us)) result }
 {
     let mut pos = Position {
         here: src.enter(0, 0),
