@@ -176,9 +176,9 @@ fn write_out(table: &Table, out: &mut [u32])
 // Searches in `work`, and writes a row for each class into `out`, in order: signature, mark, the places of the parts counted
 // from one, and the words of the size. How many classes; none where there are more than `most`, or too few words.
 pub fn report<A: Automaton>(a: &A, most: usize, work: &mut [u32], out: &mut [u32]) -> Option<usize>
-    requires ready { ready a.now }
-    requires width { wide a.now ≡ 1 }
-    requires alphabet { Alphabet (meaning a.now) (alphabet a.now) (markof a.now) }
+    requires ready { A.ready a.now }
+    requires width { A.wide a.now ≡ 1 }
+    requires alphabet { Alphabet (A.meaning a.now) (A.alphabet a.now) (A.markof a.now) }
 {
     if most > 1000 || work.len() < most * (most / 32 + 9) + most / 32 + 3 {
         return None;
