@@ -4,7 +4,7 @@ use crate::kinds::{breaks, kinds_of};
 use crate::trees::{Forest, read_tree};
 use crate::tried::Tried;
 use crate::turning::{UNTOUCHED, untouched};
-use anyhow::anyhow;
+use anyhow::{Context, anyhow};
 use std::alloc::{AllocError, Global};
 use turned::{Judged, judge};
 
@@ -31,7 +31,11 @@ fn work_words(job: usize, most: u32) -> usize {
 }
 
 pub fn holds(fact: bool, otherwise: &'static str) -> anyhow::Result<()> {
-    if fact { Ok(()) } else { Err(otherwise.into()) }
+    if fact {
+        Ok(())
+    } else {
+        Err(anyhow!(otherwise))
+    }
 }
 
 // The buffers of calls of `judge` on one job.
@@ -56,8 +60,8 @@ impl<'a> Judging<'a> {
     fn call(&mut self, most: u32, room: usize, lacks: usize) -> anyhow::Result<Judged> {
         self.tree.as_mut_slice().fill(UNTOUCHED);
         let need = work_words(self.words.len(), most).saturating_sub(lacks);
-        let tree = self.tree.as_mut_slice().get_mut(0..room).ok_or(NO_CALL)?;
-        let work = self.work.as_mut_slice().get_mut(0..need).ok_or(NO_CALL)?;
+        let tree = self.tree.as_mut_slice().get_mut(0..room).context(NO_CALL)?;
+        let work = self.work.as_mut_slice().get_mut(0..need).context(NO_CALL)?;
         Ok(judge(self.words, most, tree, work))
     }
 
@@ -90,8 +94,8 @@ impl<'a> Judging<'a> {
                 Ok(Verdict::Fits)
             }
             Judged::Breaks(words) => {
-                let tree = self.tree.as_slice().get(0..words).ok_or(NO_CALL)?;
-                let rest = self.tree.as_slice().get(words..ROOM).ok_or(NO_CALL)?;
+                let tree = self.tree.as_slice().get(0..words).context(NO_CALL)?;
+                let rest = self.tree.as_slice().get(words..ROOM).context(NO_CALL)?;
                 holds(untouched(rest), "judge writes behind the tree")?;
                 Ok(Verdict::Breaks(Vec::from_slice(heap, tree)?))
             }

@@ -2,6 +2,7 @@
 // second. Trees are alike if they have the same kinds.
 use crate::jobs::{Job, Pattern, Side, Type};
 use crate::trees::Tree;
+use anyhow::Context;
 use std::alloc::{AllocError, Global};
 
 pub const NO_KIND: &str = "a tree without kinds";
@@ -90,7 +91,7 @@ pub fn kinds_of(heap: Global, job: &Job, trees: &[Tree]) -> anyhow::Result<KindR
                 node_kinds(job, mark, rows.row(left), rows.row(right), &mut kinds)
             }
         }
-        .ok_or(NO_KIND)?;
+        .context(NO_KIND)?;
         rows.push(kinds.as_slice())?;
     }
     Ok(rows)

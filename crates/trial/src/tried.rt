@@ -1,6 +1,7 @@
 // What trying tells of a job: the least tree that breaks it among those tried, and its classes.
 use crate::jobs::Job;
 use crate::kinds::{KindRows, Met, NO_KIND, breaks, leaf_kinds, node_kinds};
+use anyhow::Context;
 use std::alloc::Global;
 
 #[derive(Clone, Copy)]
@@ -22,7 +23,7 @@ pub fn try_trees(heap: Global, job: &Job, rows: &KindRows, trees: usize) -> anyh
     let mut least = None;
     for tree in 0..trees {
         let kinds = rows.row(tree);
-        met.meet(kinds).ok_or(NO_KIND)?;
+        met.meet(kinds).context(NO_KIND)?;
         if least.is_none() && breaks(job, kinds) {
             least = Some(tree);
         }
@@ -50,14 +51,14 @@ impl Closure {
         };
         let mut kinds = Vec::new(heap);
         for mark in 0..job.marks {
-            leaf_kinds(job, mark, &mut kinds).ok_or(NO_KIND)?;
-            closure.add(kinds.as_slice()).ok_or(NO_KIND)?;
+            leaf_kinds(job, mark, &mut kinds).context(NO_KIND)?;
+            closure.add(kinds.as_slice()).context(NO_KIND)?;
         }
         for at in 0..usize::MAX {
             if at >= closure.len() {
                 break;
             }
-            closure.add_nodes(job, at, &mut kinds).ok_or(NO_KIND)?;
+            closure.add_nodes(job, at, &mut kinds).context(NO_KIND)?;
         }
         Ok(closure)
     }

@@ -3,7 +3,7 @@ use crate::counts::Counts;
 use crate::jobs::{Job, Pattern, Side};
 use crate::kinds::{KindRows, comes};
 use crate::trees::{Forest, Tree};
-use anyhow::anyhow;
+use anyhow::{Context, anyhow};
 use std::alloc::{AllocError, Global};
 use turned::{Done, turn};
 
@@ -158,13 +158,13 @@ pub fn turn_trees<'a>(
         let row = forest.row(tree);
         let comes = comes(job, rows.row(tree));
         if comes {
-            filling.result(tree, &mut turning.mine).ok_or(NOT_TURNED)?;
+            filling.result(tree, &mut turning.mine).context(NOT_TURNED)?;
         }
-        let (mut right, done) = turning.answers(row, comes).ok_or(NOT_TURNED)?;
+        let (mut right, done) = turning.answers(row, comes).context(NOT_TURNED)?;
         if let Done::Result(words) = done
             && tree % 16 == 3
         {
-            right = right && turning.refuses(row, words).ok_or(NOT_TURNED)?;
+            right = right && turning.refuses(row, words).context(NOT_TURNED)?;
             counts.short = counts.short.saturating_add(1);
         }
         if !right {
