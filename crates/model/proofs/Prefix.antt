@@ -1,13 +1,13 @@
 -- Rows say one thing only: no row is the beginning of another. Each row begins with a word that tells how it goes on, so
 -- equal words are taken apart from the front, with the rest behind them carried along.
-use Rattle.std.proofs.Common.{◌≡◌, ℕ, ◌+◌, ◌*◌, Bool, List, [], ◌∷◌, ◌++◌, length, sym, refl, ap, ◌∙◌, append_assoc, arith, length-append}
+use Rattle.std.proofs.Common.{◌≡◌, ℕ, ◌*◌, List, [], ◌∷◌, ◌++◌, length, sym, refl, ap, ◌∙◌, append_assoc, arith, length-append}
 use mathlib.Core.List.{tail-eq_of_cons-eq}
 use Rattle.std.specs.List.{flat_map}
 use Rattle.model.specs.Trees.{Tree, leaf, node, size}
 use Rattle.model.specs.Types.{TreeType, WellFormedType}
 use Rattle.model.specs.Turns.{Side, left, right, Pattern, p_leaf, p_node, p_part, Turn, WellFormedTurn}
-use Rattle.model.specs.Jobs.{Job, WellFormedJob}
-use Rattle.model.specs.Rows.{tree_row, side_word, pattern_row, patterns_row, type_row, turn_row, job_row, Rows}
+use Rattle.model.specs.Jobs.{WellFormedJob}
+use Rattle.model.specs.Rows.{tree_row, side_word, pattern_row, patterns_row, type_row, turn_row, job_row}
 use Rattle.model.specs.Laws.{PrefixFree, RowLaws}
 
 -- two lists with fronts of one length

@@ -1,5 +1,5 @@
 -- Jobs: a type for what comes in, a turn, and a type for what is to come out.
-use Rattle.std.specs.Prelude.{◌≡◌, ℕ, ◌<◌, ◌≤◌, Bool, true}
+use Rattle.std.specs.Prelude.{◌≡◌, ℕ, ◌<◌, ◌≤◌, true}
 use Rattle.std.specs.List.{AllByRecursion as All}
 use Rattle.model.specs.Trees.{Tree, Marked}
 use Rattle.model.specs.Types.{TreeType, kind, is_of, WellFormedType}

@@ -1,5 +1,5 @@
 -- A worked case: two marks, one state; a leaf stays, a node a(l, r) becomes 1(r, l).
-use Rattle.std.specs.Prelude.{◌≡◌, ℕ, List, [], ◌∷◌, length}
+use Rattle.std.specs.Prelude.{◌≡◌, [], ◌∷◌, length}
 use Rattle.model.specs.Trees.{Tree, leaf, node}
 use Rattle.model.specs.Types.{TreeType, kind}
 use Rattle.model.specs.Turns.{left, right, Pattern, p_leaf, p_node, p_part, Turn}

@@ -1,16 +1,14 @@
 -- Jobs: the number of marks, a type, a turn and a type, each of which is found or is absent, with nothing behind.
 -- What was found is what stands in the row of any job with these words, since no row begins another.
-use Rattle.std.proofs.Common.{◌≡◌, ℕ, ◌+◌, ◌-◌, ◌*◌, ◌<◌, ◌≤◌, ◌⊎◌, List, [], ◌∷◌, ◌++◌, length, get_or, drop, Some, None, sym, refl, ap, ◌∙◌, subst, inl, inr, append_assoc, arith, length-drop}
+use Rattle.std.proofs.Common.{◌≡◌, ℕ, ◌-◌, ◌<◌, ◌≤◌, ◌⊎◌, List, [], ◌∷◌, ◌++◌, length, get_or, drop, Some, sym, refl, ap, ◌∙◌, subst, inl, inr, arith, length-drop}
 use Rattle.std.proofs.lemmas.List.{append-nil, drop_all}
-use Rattle.model.specs.Types.{TreeType}
-use Rattle.model.specs.Turns.{Turn}
 use Rattle.model.specs.Jobs.{Job}
-use Rattle.model.specs.Rows.{type_row, turn_row, job_row, Rows}
+use Rattle.model.specs.Rows.{type_row, turn_row, Rows}
 use Rattle.model.proofs.Prefix.{types_apart, turns_apart}
 use Rattle.rows.specs.declared.tables.TypePlaces.{TypePlaces}
 use Rattle.rows.specs.declared.jobs.TurnPlaces.{TurnPlaces}
 use Rattle.rows.specs.Standing.{Stands, Absent}
-use Rattle.rows.specs.Tables.{TypeOk, TypeKnown, TypeRead, type_in}
+use Rattle.rows.specs.Tables.{TypeOk, TypeRead, type_in}
 use Rattle.rows.specs.Jobs.{TurnOk, TurnKnown, PlacesFound}
 use Rattle.rows.proofs.Stood.{uncons, one, both}
 

@@ -1,5 +1,5 @@
 -- How a pattern's row begins: its first word is 0, 1 or 2, and says how many more there are. By cases on the pattern.
-use Rattle.std.proofs.Common.{◌≡◌, ℕ, ◌+◌, ◌<◌, ◌≤◌, List, [], ◌∷◌, ◌++◌, length, get_or, drop, refl, arith}
+use Rattle.std.proofs.Common.{◌≡◌, ℕ, ◌+◌, ◌<◌, ◌≤◌, List, ◌∷◌, ◌++◌, length, get_or, drop, refl, arith}
 use Rattle.model.specs.Turns.{Side, left, right, Pattern, p_leaf, p_node, p_part}
 use Rattle.model.specs.Rows.{side_word, pattern_row}
 use Rattle.rows.proofs.Stood.{uncons}

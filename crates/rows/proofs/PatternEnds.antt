@@ -1,17 +1,17 @@
 -- Where a pattern ends, from its first step and the ends of its parts; and that none stands there, from what is amiss.
 -- A pattern that stands at a place begins with the step that stands there, so it is of that sort.
-use Rattle.std.proofs.Common.{◌≡◌, ℕ, ◌+◌, ◌-◌, ◌<◌, ◌≤◌, max, Bool, true, false, ◌⊎◌, List, [], ◌∷◌, ◌++◌, length, drop, Some, None, sym, refl, ap, ◌∙◌, subst, inl, inr, append_assoc, arith}
+use Rattle.std.proofs.Common.{◌≡◌, ℕ, ◌+◌, ◌-◌, ◌<◌, ◌≤◌, max, true, false, ◌⊎◌, List, [], ◌∷◌, ◌++◌, drop, Some, sym, ◌∙◌, subst, inl, inr, append_assoc, arith}
 use mathlib.Core.List.{tail-eq_of_cons-eq}
 use Rattle.std.proofs.lemmas.Bool.{true≢false}
-use Rattle.model.specs.Turns.{Side, left, right, Pattern, p_leaf, p_node, p_part, depth, WellFormedPattern}
+use Rattle.model.specs.Turns.{Pattern, p_leaf, p_node, p_part, depth}
 use Rattle.model.specs.Rows.{side_word, pattern_row}
 use Rattle.model.proofs.Prefix.{patterns_apart, side_words}
 use Rattle.rows.specs.declared.steps.Part.{Part}
 use Rattle.rows.specs.declared.steps.Step.{Step}
 use Rattle.rows.specs.declared.steps.Step.TheVariants.{Leaf, Node, Made}
 use Rattle.rows.specs.declared.patterns.Bounds.{Bounds}
-use Rattle.rows.specs.Standing.{Stands, Absent, Ends}
-use Rattle.rows.specs.Stepwise.{side_of, step_row, StepAt, PatternOk}
+use Rattle.rows.specs.Standing.{Absent, Ends}
+use Rattle.rows.specs.Stepwise.{side_of, StepAt, PatternOk}
 use Rattle.rows.proofs.Stood.{both}
 
 pub as_step : (s : List ℕ) (at : ℕ) (x y : Step) → x ≡ y → StepAt s at (Some x) → StepAt s at (Some y)

@@ -1,18 +1,18 @@
 -- Patterns one behind the other: as long as each is found, a list of patterns that stands there begins with those found,
 -- and what is left of it stands behind them. One more pattern found is one more at the end of the list.
-use Rattle.std.proofs.Common.{◌≡◌, ℕ, zero, suc, ◌+◌, ◌*◌, ◌<◌, ◌≤◌, ◌≢◌, ◌⊎◌, List, [], ◌∷◌, ◌++◌, length, get_or, take, drop, Some, None, sym, refl, ap, ◌∙◌, subst, inl, inr, append_assoc, arith, length-append, length-drop, take-append-drop, length-take}
+use Rattle.std.proofs.Common.{◌≡◌, ℕ, ◌+◌, ◌<◌, ◌≤◌, List, [], ◌∷◌, ◌++◌, length, get_or, take, drop, Some, sym, refl, ap, ◌∙◌, subst, inl, inr, append_assoc, arith, length-drop, take-append-drop, length-take}
 use Rattle.std.specs.List.{flat_map, AllByRecursion as All}
 use Rattle.std.proofs.lemmas.List.{append-nil, get_or_append_left, get_or_push, length_push}
 use Rattle.std.proofs.ByRecursion.{All-push, All-drop}
-use Rattle.std.proofs.lemmas.Bool.{cases_lt, cases_eq}
-use Rattle.model.specs.Turns.{Pattern, p_leaf, p_node, p_part}
+use Rattle.std.proofs.lemmas.Bool.{cases_eq}
+use Rattle.model.specs.Turns.{Pattern, p_leaf}
 use Rattle.model.specs.Rows.{pattern_row, patterns_row}
 use Rattle.model.proofs.Prefix.{patterns_apart, joined_apart}
 use Rattle.rows.specs.declared.patterns.Bounds.{Bounds}
 use Rattle.rows.specs.Numbered.{number, Noted}
 use Rattle.rows.specs.Standing.{Stands, Absent, Ends}
 use Rattle.rows.specs.Stepwise.{PatternOk}
-use Rattle.rows.specs.Jobs.{Begins, PatternsOk, Indexed, PatternsKnown}
+use Rattle.rows.specs.Jobs.{Begins, PatternsOk, PatternsKnown}
 use Rattle.rows.proofs.Stood.{both}
 
 joined_append : {A : Type 0} (row : A → List ℕ) (xs ys : List A) → flat_map row (xs ++ ys) ≡ flat_map row xs ++ flat_map row ys

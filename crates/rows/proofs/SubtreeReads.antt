@@ -1,11 +1,11 @@
 -- Subtrees of a tree in lent words: each is found from those behind it, and where one cannot be found, no tree has these words,
 -- since in a tree's row a subtree begins with every leaf and node.
-use Rattle.std.proofs.Common.{◌≡◌, ℕ, zero, suc, ◌+◌, ◌-◌, ◌*◌, ◌/◌, ◌%◌, ◌<◌, ◌≤◌, ◌≢◌, ◌⊎◌, List, [], ◌∷◌, ◌++◌, length, get_or, drop, set, Some, None, sym, refl, ap, ◌∙◌, subst, inl, inr, append_assoc, arith, length-append, length-drop}
+use Rattle.std.proofs.Common.{◌≡◌, ℕ, zero, suc, ◌+◌, ◌-◌, ◌*◌, ◌/◌, ◌%◌, ◌<◌, ◌≤◌, ◌≢◌, ◌⊎◌, List, [], ◌∷◌, ◌++◌, length, get_or, drop, set, Some, sym, refl, ap, ◌∙◌, subst, inl, inr, append_assoc, arith, length-drop}
 use mathlib.Core.List.{tail-eq_of_cons-eq}
 use Rattle.std.proofs.lemmas.List.{append-nil, drop_all, drop-drop, drop_at, get_or-set_same, get_or-set_other}
 use Rattle.std.proofs.lemmas.Bool.{cases_lt, cases_eq}
 use Rattle.model.specs.Trees.{Tree, leaf, node, size, Marked}
-use Rattle.model.specs.Types.{TreeType, kind, kind_of_leaf, kind_of_node, WellFormedType}
+use Rattle.model.specs.Types.{TreeType, kind_of_leaf, kind_of_node, WellFormedType}
 use Rattle.model.specs.Rows.{tree_row}
 use Rattle.model.proofs.KindsBelow.{kind_below}
 use Rattle.model.proofs.Order.{size_positive}
@@ -14,7 +14,7 @@ use Rattle.rows.specs.declared.trees.Item.{Item}
 use Rattle.rows.specs.declared.trees.Item.TheVariants.{Leaf, Node}
 use Rattle.rows.specs.Numbered.{number, Noted}
 use Rattle.rows.specs.Standing.{Stands, Absent}
-use Rattle.rows.specs.Subtrees.{item_row, ItemAt, SubtreeAt, Subtrees, TreeKnown}
+use Rattle.rows.specs.Subtrees.{ItemAt, SubtreeAt, Subtrees, TreeKnown}
 use Rattle.rows.proofs.Stood.{uncons, both, ends_within}
 
 pub subtree_below : (t : TreeType) (m : ℕ) (s : List ℕ) {i end k : ℕ} → WellFormedType m t → SubtreeAt t m s i end k → k < t.kinds

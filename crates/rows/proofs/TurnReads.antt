@@ -1,6 +1,6 @@
 -- Turns at a place: the number of states, then two lists of patterns, each of which is found or is absent.
 -- What the index notes of the first list lasts while the second is noted behind it.
-use Rattle.std.proofs.Common.{◌≡◌, ℕ, ◌+◌, ◌-◌, ◌*◌, ◌<◌, ◌≤◌, Bool, true, false, ◌⊎◌, List, [], ◌∷◌, ◌++◌, length, get_or, drop, Some, None, sym, refl, ap, ◌∙◌, subst, inl, inr, append_assoc, arith, length-append, length-drop}
+use Rattle.std.proofs.Common.{◌≡◌, ℕ, ◌+◌, ◌-◌, ◌*◌, ◌<◌, ◌≤◌, Bool, true, false, ◌⊎◌, List, [], ◌∷◌, ◌++◌, length, get_or, drop, Some, sym, refl, ap, ◌∙◌, subst, inl, inr, append_assoc, arith, length-append, length-drop}
 use Rattle.std.specs.List.{AllByRecursion as All}
 use Rattle.std.proofs.ByRecursion.{All-weaker}
 use Rattle.model.specs.Turns.{Pattern, p_leaf, p_node, p_part, Turn, WellFormedPattern}
@@ -8,11 +8,9 @@ use Rattle.model.specs.Jobs.{Shallow}
 use Rattle.model.specs.Rows.{pattern_row, patterns_row, turn_row}
 use Rattle.model.proofs.Prefix.{patterns_apart, joined_apart}
 use Rattle.rows.specs.declared.patterns.Bounds.{Bounds}
-use Rattle.rows.specs.declared.jobs.TurnPlaces.{TurnPlaces}
-use Rattle.rows.specs.Numbered.{number}
-use Rattle.rows.specs.Standing.{Stands, Absent}
+use Rattle.rows.specs.Standing.{Absent}
 use Rattle.rows.specs.Stepwise.{PatternOk}
-use Rattle.rows.specs.Jobs.{Begins, PatternsOk, Indexed, PatternsKnown, TurnOk, TurnKnown, TurnRead}
+use Rattle.rows.specs.Jobs.{Begins, PatternsOk, PatternsKnown, TurnOk, TurnRead}
 use Rattle.rows.proofs.Stood.{uncons, one, both}
 
 -- two facts of each element are one

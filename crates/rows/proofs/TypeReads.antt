@@ -1,14 +1,12 @@
 -- Types at a place: a type's row is its number of kinds and three tables, and each of these is found or is absent.
 -- What was found of the type so far stands in front of what is looked for next.
-use Rattle.std.proofs.Common.{◌≡◌, ℕ, ◌+◌, ◌-◌, ◌*◌, ◌<◌, ◌≤◌, ◌⊎◌, List, [], ◌∷◌, ◌++◌, length, get_or, take, drop, Some, None, sym, refl, ap, ◌∙◌, subst, inl, inr, append_assoc, arith}
-use mathlib.Core.List.{tail-eq_of_cons-eq}
-use Rattle.model.specs.Types.{TreeType, Below, WellFormedType}
+use Rattle.std.proofs.Common.{◌≡◌, ℕ, ◌+◌, ◌-◌, ◌*◌, ◌<◌, ◌≤◌, ◌⊎◌, List, [], ◌∷◌, ◌++◌, length, get_or, drop, Some, sym, refl, ap, ◌∙◌, subst, inl, inr, append_assoc, arith}
+use Rattle.model.specs.Types.{TreeType, Below}
 use Rattle.model.specs.Rows.{type_row}
-use Rattle.rows.specs.declared.tables.TypePlaces.{TypePlaces}
 use Rattle.rows.specs.Standing.{Stands, slice, Absent, Ends}
-use Rattle.rows.specs.Tables.{Table, TypeOk, TypeKnown, TypeRead, type_in}
+use Rattle.rows.specs.Tables.{Table, TypeOk, TypeRead}
 use Rattle.rows.proofs.Stood.{Front, uncons, one, both}
-use Rattle.rows.proofs.TableEnds.{slice_length, slice_stands, TableAt, table_at, table_front}
+use Rattle.rows.proofs.TableEnds.{slice_length, slice_stands, table_at, table_front}
 
 module _ (s : List ℕ) (at m : ℕ) where
   -- the tables of a type whose row stands at the place, with k kinds

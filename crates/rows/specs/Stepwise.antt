@@ -1,5 +1,5 @@
 -- A pattern's row and a tree's row, read one step at a time.
-use Rattle.std.specs.Prelude.{◌≡◌, ℕ, ◌+◌, ◌*◌, ◌≤◌, Bool, List, [], ◌∷◌, length, Some, None, Option}
+use Rattle.std.specs.Prelude.{ℕ, ◌+◌, ◌≤◌, List, [], ◌∷◌, length, Some, None, Option}
 use Rattle.model.specs.Turns.{Side, left, right, Pattern, depth, WellFormedPattern}
 use Rattle.model.specs.Rows.{side_word, pattern_row}
 use Rattle.rows.specs.declared.steps.Part.{Part}

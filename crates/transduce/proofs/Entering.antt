@@ -1,14 +1,13 @@
 -- Entering a subtree in a state: the frame of its pattern, which the index finds by state and mark.
 -- The words at the subtree's number tell whether it is a leaf or a node, and its mark.
-use Rattle.std.proofs.Common.{◌≡◌, ℕ, ◌+◌, ◌*◌, ◌<◌, ◌≤◌, Bool, true, false, List, [], ◌∷◌, ◌++◌, length, get_or, drop, Some, None, sym, refl, ap, ◌∙◌, subst, arith}
+use Rattle.std.proofs.Common.{◌≡◌, ℕ, ◌+◌, ◌*◌, ◌<◌, Bool, true, false, List, [], ◌∷◌, length, get_or, Some, sym, refl, ap, ◌∙◌, subst, arith}
 use Rattle.std.specs.List.{AllByRecursion as All}
 use Rattle.std.proofs.lemmas.List.{append-nil}
 use Rattle.std.proofs.lemmas.Nat.{mul-add-lt}
 use Rattle.std.proofs.ByRecursion.{All-get_or}
 use Rattle.model.specs.Trees.{Tree, leaf, node, Marked}
-use Rattle.model.specs.Turns.{Pattern, p_leaf, Turn, pattern_place, WellFormedPattern}
+use Rattle.model.specs.Turns.{Pattern, p_leaf, pattern_place, WellFormedPattern}
 use Rattle.model.specs.Rows.{tree_row, pattern_row, patterns_row}
-use Rattle.rows.specs.declared.trees.Item.{Item}
 use Rattle.rows.specs.declared.trees.Item.TheVariants.{Leaf, Node}
 use Rattle.rows.specs.Numbered.{number}
 use Rattle.rows.specs.Standing.{Stands}
@@ -16,9 +15,8 @@ use Rattle.rows.specs.Jobs.{Begins, Indexed}
 use Rattle.rows.specs.Subtrees.{ItemAt, SubtreeAt}
 use Rattle.rows.specs.Tables.{type_in}
 use Rattle.rows.proofs.SubtreeReads.{item_tells, tree_front}
-use Rattle.transduce.specs.declared.frames.Frame.{Frame}
 use Rattle.transduce.specs.declared.source.Source.{Source}
-use Rattle.transduce.specs.Tasks.{pattern_for, has_parts}
+use Rattle.transduce.specs.Tasks.{pattern_for}
 use Rattle.transduce.specs.Framed.{SourceKnown, FrameKnown}
 
 -- one of the patterns that the index notes

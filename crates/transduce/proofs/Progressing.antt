@@ -1,6 +1,6 @@
 -- The walk as a whole: what was put out and what is pending are the result, from the start to the end.
 -- Each leaf or node moves two words from the one to the other.
-use Rattle.std.proofs.Common.{◌≡◌, ℕ, suc, ◌+◌, ◌-◌, ◌*◌, ◌<◌, ◌≤◌, true, false, List, [], ◌∷◌, ◌++◌, length, drop, Some, None, sym, refl, ap, ◌∙◌, subst, append_assoc, arith, length-append}
+use Rattle.std.proofs.Common.{◌≡◌, ℕ, ◌-◌, ◌*◌, ◌<◌, ◌≤◌, true, false, List, [], ◌∷◌, ◌++◌, length, sym, refl, ap, ◌∙◌, subst, append_assoc, arith, length-append}
 use Rattle.std.proofs.lemmas.List.{append-nil}
 use Rattle.model.specs.Rows.{tree_row}
 use Rattle.rows.specs.Jobs.{Begins}
@@ -8,9 +8,9 @@ use Rattle.rows.proofs.Stood.{stands}
 use Rattle.transduce.specs.declared.frames.Frame.{Frame}
 use Rattle.transduce.specs.declared.source.Source.{Source}
 use Rattle.transduce.specs.declared.walks.Position.{Position}
-use Rattle.transduce.specs.Tasks.{pattern_for, parts_of, task_row, tasks_row}
-use Rattle.transduce.specs.Framed.{SourceKnown, FrameKnown, made_of, result_row}
-use Rattle.transduce.specs.Walks.{Pending, AfterLeaf, Progress, Walked}
+use Rattle.transduce.specs.Tasks.{pattern_for}
+use Rattle.transduce.specs.Framed.{SourceKnown, FrameKnown, result_row}
+use Rattle.transduce.specs.Walks.{Pending, Progress, Walked}
 use Rattle.transduce.proofs.Walking.{tree_long, made_filled, pending_long, child_within}
 
 module _ (src : Source) (k : SourceKnown src) where

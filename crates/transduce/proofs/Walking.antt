@@ -1,20 +1,19 @@
 -- One step of the walk: what is still to be put out begins with a leaf or a node, or is the same in the frame of a part.
 -- The first pattern of the frame is the one that begins with the step; the others and the frames below stay.
-use Rattle.std.proofs.Common.{◌≡◌, ℕ, zero, suc, ◌+◌, ◌-◌, ◌*◌, ◌<◌, ◌≤◌, Bool, true, false, List, [], ◌∷◌, ◌++◌, length, drop, Some, None, sym, refl, ap, ◌∙◌, subst, append_assoc, arith, length-append}
+use Rattle.std.proofs.Common.{◌≡◌, ℕ, suc, ◌+◌, ◌-◌, ◌*◌, ◌<◌, ◌≤◌, true, List, [], ◌∷◌, ◌++◌, length, drop, Some, None, sym, refl, ap, ◌∙◌, subst, append_assoc, arith, length-append}
 use Rattle.std.specs.List.{flat_map, AllByRecursion as All}
 use Rattle.std.proofs.lemmas.List.{append-nil}
 use Rattle.std.proofs.lemmas.Bool.{false≢true}
 use Rattle.model.specs.Trees.{Tree, leaf, node, Marked}
-use Rattle.model.specs.Turns.{Side, left, right, Pattern, p_leaf, p_node, p_part, Turn, filled, made, WellFormedPattern}
+use Rattle.model.specs.Turns.{Pattern, p_leaf, p_node, p_part, Turn, filled, made, WellFormedPattern}
 use Rattle.model.specs.Rows.{tree_row, side_word, pattern_row, patterns_row}
 use Rattle.model.proofs.Prefix.{trees_apart}
 use Rattle.rows.specs.declared.steps.Part.{Part}
 use Rattle.rows.specs.declared.steps.Part.TheVariants.{Left, Right}
-use Rattle.rows.specs.declared.steps.Step.{Step}
 use Rattle.rows.specs.declared.steps.Step.TheVariants.{Leaf, Node, Made}
 use Rattle.rows.specs.Numbered.{number}
 use Rattle.rows.specs.Standing.{Stands, Absent}
-use Rattle.rows.specs.Stepwise.{side_of, StepAt}
+use Rattle.rows.specs.Stepwise.{side_of}
 use Rattle.rows.specs.Jobs.{Begins}
 use Rattle.rows.proofs.Stood.{past, stands, rest_stands}
 use Rattle.rows.proofs.PatternEnds.{tells}
@@ -24,7 +23,7 @@ use Rattle.transduce.specs.declared.source.Source.{Source}
 use Rattle.transduce.specs.declared.walks.Position.{Position}
 use Rattle.transduce.specs.Tasks.{parts_of, pattern_for, has_parts, Task, task_row, tasks_row}
 use Rattle.transduce.specs.Framed.{SourceKnown, FrameKnown, part_tree, frame_at, Saved, Stack}
-use Rattle.transduce.specs.Walks.{Pending, Begun, Descended, AfterNode, AfterLeaf, GoesOn}
+use Rattle.transduce.specs.Walks.{Pending, Begun, AfterNode, AfterLeaf}
 use Rattle.transduce.proofs.Entering.{subtree_at}
 
 pub tree_long : (x : Tree) → 1 ≤ length (tree_row x)

@@ -1,8 +1,8 @@
 -- A job and a tree that were read, and frames: tasks as numbers in lent words.
-use Rattle.std.specs.Prelude.{◌≡◌, ℕ, ◌+◌, ◌-◌, ◌*◌, ◌≤◌, List, [], ◌∷◌, ◌++◌, length, ◌≢◌}
+use Rattle.std.specs.Prelude.{◌≡◌, ℕ, ◌+◌, ◌-◌, ◌*◌, ◌≤◌, List, [], ◌∷◌, length, ◌≢◌}
 use Rattle.std.specs.List.{AllByRecursion as All}
 use Rattle.model.specs.Trees.{Tree, Marked}
-use Rattle.model.specs.Turns.{Turn, WellFormedPattern, made}
+use Rattle.model.specs.Turns.{WellFormedPattern, made}
 use Rattle.model.specs.Rows.{tree_row, patterns_row}
 use Rattle.rows.specs.declared.steps.Part.{Part}
 use Rattle.rows.specs.declared.steps.Part.TheVariants.{Left, Right}

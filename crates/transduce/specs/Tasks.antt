@@ -1,5 +1,5 @@
 -- What is still to be put out of a result, while patterns are filled in.
-use Rattle.std.specs.Prelude.{ℕ, Bool, true, false, List, ◌++◌}
+use Rattle.std.specs.Prelude.{ℕ, Bool, true, false, List}
 use Rattle.std.specs.List.{flat_map}
 use Rattle.model.specs.Trees.{Tree, leaf, node}
 use Rattle.model.specs.Turns.{Side, Pattern, Turn, filled, leaf_pattern, node_pattern, of_parts, no_part, made}

@@ -1,8 +1,7 @@
 -- The walk over patterns: what is still to come, and what has been put out.
-use Rattle.std.specs.Prelude.{◌≡◌, ℕ, ◌+◌, ◌-◌, ◌*◌, ◌<◌, ◌≤◌, Bool, true, false, List, [], ◌∷◌, ◌++◌, length, Some, None, Option}
+use Rattle.std.specs.Prelude.{◌≡◌, ℕ, ◌+◌, ◌*◌, ◌<◌, ◌≤◌, Bool, true, false, List, [], ◌∷◌, ◌++◌, length, Some, None, Option}
 use Rattle.rows.specs.declared.steps.Step.{Step}
 use Rattle.rows.specs.Stepwise.{StepAt}
-use Rattle.transduce.specs.declared.frames.Frame.{Frame}
 use Rattle.transduce.specs.declared.source.Source.{Source}
 use Rattle.transduce.specs.declared.walks.Position.{Position}
 use Rattle.transduce.specs.Tasks.{Task, task_row, tasks_row}

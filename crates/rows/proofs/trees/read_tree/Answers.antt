@@ -1,4 +1,4 @@
-use Rattle.std.proofs.Common.{ℕ, ◌-◌, ◌/◌, length, sym, ◌∙◌, inl, inr, arith}
+use Rattle.std.proofs.Common.{◌-◌, ◌/◌, length, sym, ◌∙◌, inl, inr, arith}
 use Rattle.rows.specs.Tables.{type_in}
 use Rattle.rows.proofs.SubtreeReads.{none_length, none_subtree, one_more, none_end, some_tree}
 use Rattle.rows.proofs.trees.read_tree.Goals as goal

@@ -1,4 +1,4 @@
-use Rattle.std.proofs.Common.{◌≡◌, ℕ, ◌+◌, ◌*◌, ◌<◌, get_or, sym, refl, subst, arith}
+use Rattle.std.proofs.Common.{ℕ, get_or, sym, subst, arith}
 use Rattle.rows.specs.Subtrees.{SubtreeAt}
 use Rattle.rows.specs.Tables.{type_in}
 use Rattle.rows.proofs.SubtreeReads.{subtree_below, as_item, left_part, right_part, none_leaf, some_leaf, none_mark, none_left, none_right, some_node}

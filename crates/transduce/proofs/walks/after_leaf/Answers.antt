@@ -1,4 +1,3 @@
-use Rattle.std.proofs.Common.{arith}
 use Rattle.transduce.proofs.Walking.{leaf_next, leaf_end, leaf_below}
 use Rattle.transduce.proofs.walks.after_leaf.Goals as goal
 

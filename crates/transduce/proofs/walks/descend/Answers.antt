@@ -1,6 +1,5 @@
-use Rattle.std.proofs.Common.{◌≡◌, ℕ, ◌+◌, ◌*◌, ◌<◌, length, sym, subst, arith}
-use Rattle.model.specs.Trees.{Tree}
-use Rattle.transduce.proofs.Walking.{AtPart, at_part, part_marked, node_inner, child_within, last_part, first_part}
+use Rattle.std.proofs.Common.{arith}
+use Rattle.transduce.proofs.Walking.{at_part, part_marked, node_inner, child_within, last_part, first_part}
 use Rattle.transduce.proofs.walks.descend.Goals as goal
 
 pub part-child-requires : goal.part-child-requires

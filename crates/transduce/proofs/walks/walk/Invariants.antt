@@ -1,4 +1,4 @@
-use Rattle.std.proofs.Common.{ℕ, ◌+◌, ◌-◌, ◌*◌, ◌<◌, ◌≤◌, List, ◌++◌, length}
+use Rattle.std.proofs.Common.{ℕ, ◌+◌, ◌-◌, ◌*◌, ◌<◌, List, ◌++◌, length}
 use Rattle.transduce.specs.Framed.{SourceKnown}
 use Rattle.transduce.specs.Walks.{Progress}
 use Rattle.transduce.proofs.walks.walk.Given as goal

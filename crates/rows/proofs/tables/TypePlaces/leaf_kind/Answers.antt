@@ -1,4 +1,4 @@
-use Rattle.std.proofs.Common.{sym, arith}
+use Rattle.std.proofs.Common.{sym}
 use Rattle.rows.proofs.TableEnds.{slice_at, slice_below}
 use Rattle.rows.proofs.tables.TypePlaces.leaf_kind.Goals as goal
 

@@ -1,4 +1,4 @@
-use Rattle.std.proofs.Common.{ℕ, ◌+◌, ◌*◌, get_or, sym, ap, ◌∙◌, arith}
+use Rattle.std.proofs.Common.{ℕ, ◌*◌, get_or, sym, ap, ◌∙◌}
 use Rattle.rows.specs.Standing.{slice}
 use Rattle.rows.proofs.TableEnds.{slice_at, slice_below}
 use Rattle.rows.proofs.tables.TypePlaces.node_kind.Goals as goal

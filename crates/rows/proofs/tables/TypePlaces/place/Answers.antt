@@ -1,4 +1,4 @@
-use Rattle.std.proofs.Common.{refl, arith}
+use Rattle.std.proofs.Common.{refl}
 use Rattle.rows.proofs.TableEnds.{place_below}
 use Rattle.rows.proofs.tables.TypePlaces.place.Goals as goal
 

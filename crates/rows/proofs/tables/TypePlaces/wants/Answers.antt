@@ -1,4 +1,4 @@
-use Rattle.std.proofs.Common.{sym, refl, ◌∙◌, arith}
+use Rattle.std.proofs.Common.{sym, ◌∙◌, arith}
 use Rattle.rows.proofs.TableEnds.{contains_here, contains_more, contains_none}
 use Rattle.rows.proofs.tables.TypePlaces.wants.Goals as goal
 

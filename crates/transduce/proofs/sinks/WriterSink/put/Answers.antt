@@ -1,4 +1,4 @@
-use Rattle.std.proofs.Common.{inl, inr, arith}
+use Rattle.std.proofs.Common.{inl, inr}
 use Rattle.transduce.proofs.Putting.{no_room, put_two}
 use Rattle.transduce.proofs.sinks.WriterSink.put.Goals as goal
 use Rattle.transduce.proofs.sinks.WriterSink.put.Goals.{then-at-out-via-then-at-out, then-at-out-via-else-at-out+then-out-at-lt2}

@@ -1,4 +1,4 @@
-use Rattle.std.proofs.Common.{refl, arith}
+use Rattle.std.proofs.Common.{refl}
 use Rattle.rows.proofs.SubtreeReads.{as_item}
 use Rattle.transduce.proofs.Entering.{item_within, leaf_mark, node_mark, enter_leaf, enter_node}
 use Rattle.transduce.proofs.source.Source.enter.Goals as goal

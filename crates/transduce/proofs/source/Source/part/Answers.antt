@@ -1,4 +1,4 @@
-use Rattle.std.proofs.Common.{◌≡◌, ◌+◌, ◌*◌, ◌<◌, sym, subst, arith}
+use Rattle.std.proofs.Common.{◌+◌, ◌*◌, ◌<◌, sym, subst, arith}
 use Rattle.model.specs.Rows.{tree_row}
 use Rattle.rows.specs.declared.steps.Part.{Part}
 use Rattle.rows.specs.Jobs.{Begins}
