@@ -3,7 +3,7 @@
 use Rattle.std.proofs.Common.{◌≡◌, ℕ, ◌+◌, ◌<◌, ◌≢◌, List, [], length, get_or, sym, ap, ◌∙◌, subst, arith}
 use native.Mathlib.Decide.{ℕ_discrete, dec_lt}
 use Rattle.std.proofs.lemmas.List.{get_or-set_same, get_or-set_other, length_push}
-use Rattle.model.specs.Trees.{Tree, leaf, node, size, Marked}
+use Rattle.model.specs.Trees.{Tree, leaf, node, Marked}
 use Rattle.automata.specs.Automata.{TreeAutomaton, sig}
 use Rattle.automata.specs.Classes.{at, Le, Has}
 use Rattle.automata.specs.Frontier.{Covered, Keeps, LeavesCovered, NodesCovered}

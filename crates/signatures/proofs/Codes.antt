@@ -1,13 +1,13 @@
 -- Signatures as numbers: the kinds are the digits, the kind in the first type the highest. Digits below the base give the
 -- bound, and that different signatures have different numbers.
-use Rattle.std.proofs.Common.{◌≡◌, ℕ, zero, suc, ◌+◌, ◌*◌, ◌/◌, ◌%◌, ◌^◌, ◌<◌, List, [], ◌∷◌, map, length, get_or, sym, refl, ap, ◌∙◌, subst, mul_assoc, mul-one, arith}
+use Rattle.std.proofs.Common.{◌≡◌, ℕ, zero, suc, ◌+◌, ◌*◌, ◌/◌, ◌%◌, ◌^◌, ◌<◌, List, [], ◌∷◌, map, length, sym, refl, ap, ◌∙◌, subst, mul_assoc, mul-one, arith}
 use native.Mathlib.Nat.{pow-succ', pow-zero}
 use lib.Arith.{digits_lt, digits_div, digits_mod}
 use Rattle.std.specs.List.{range_with_len}
 use Rattle.std.proofs.lemmas.List.FromFn.{length-map-range_with_len}
 use Rattle.model.proofs.KindsBelow.{kind_below}
-use Rattle.model.specs.Trees.{Tree, leaf, node}
-use Rattle.model.specs.Types.{TreeType, kind, node_place, Below, WellFormedType}
+use Rattle.model.specs.Trees.{Tree}
+use Rattle.model.specs.Types.{kind, Below}
 use Rattle.model.specs.Jobs.{Job, made_by, WellFormedJob}
 use Rattle.automata.specs.Laws.{Coded}
 use Rattle.signatures.specs.Signatures.{signature, job_automaton}

@@ -1,20 +1,18 @@
 -- One step of evaluating a pattern: the step that stands at its place tells of which sort it is, and its patterns stand behind.
-use Rattle.std.proofs.Common.{◌≡◌, ℕ, ◌+◌, ◌-◌, ◌<◌, ◌≤◌, max, List, [], ◌∷◌, ◌++◌, length, drop, Some, None, sym, refl, ap, ◌∙◌, subst, append_assoc, arith, length-append}
+use Rattle.std.proofs.Common.{◌≡◌, ℕ, ◌+◌, ◌-◌, ◌<◌, ◌≤◌, max, List, length, Some, sym, refl, ◌∙◌, subst, arith, length-append}
 use Rattle.model.specs.Types.{TreeType, kind_of_leaf, kind_of_node}
 use Rattle.model.specs.Turns.{Pattern, p_leaf, p_node, p_part, depth}
 use Rattle.model.specs.Rows.{pattern_row}
 use Rattle.rows.specs.declared.steps.Part.{Part}
-use Rattle.rows.specs.declared.steps.Step.{Step}
 use Rattle.rows.specs.declared.steps.Step.TheVariants.{Leaf, Node, Made}
-use Rattle.rows.specs.Standing.{Stands, Absent}
+use Rattle.rows.specs.Standing.{Absent}
 use Rattle.rows.specs.Stepwise.{side_of, StepAt}
-use Rattle.rows.specs.Jobs.{Begins}
 use Rattle.rows.specs.Tables.{type_in}
 use Rattle.rows.proofs.Stood.{past, stands}
 use Rattle.rows.proofs.PatternEnds.{tells}
 use Rattle.signatures.specs.declared.evaluate.JobAutomaton.{JobAutomaton}
 use Rattle.signatures.specs.Signatures.{pattern_kind, part_kind}
-use Rattle.signatures.specs.Evaluating.{Bounded, Evaluable, Evaluates}
+use Rattle.signatures.specs.Evaluating.{Evaluable, Evaluates}
 
 pattern_long : (p : Pattern) → 1 ≤ length (pattern_row p)
 pattern_long (p_leaf a) = omega arith

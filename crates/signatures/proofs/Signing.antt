@@ -1,5 +1,5 @@
 -- The signature of a leaf or a node of a known job, word by word: its patterns stand where the index says, and can be evaluated.
-use Rattle.std.proofs.Common.{◌≡◌, ℕ, zero, suc, ◌+◌, ◌*◌, ◌<◌, ◌≤◌, Bool, true, false, List, [], ◌∷◌, map, length, get_or, sym, refl, ap, ◌∙◌, subst, add-one, arith}
+use Rattle.std.proofs.Common.{◌≡◌, ℕ, zero, suc, ◌+◌, ◌*◌, ◌<◌, Bool, true, false, List, length, get_or, sym, refl, ap, ◌∙◌, subst, add-one, arith}
 use Rattle.std.specs.List.{range_with_len, AllByRecursion as All}
 use Rattle.std.proofs.lemmas.Bool.{false≢true}
 use Rattle.std.proofs.lemmas.Nat.{mul-add-lt}
@@ -7,7 +7,7 @@ use Rattle.std.proofs.lemmas.List.{ext_get_or, length-map}
 use Rattle.std.proofs.lemmas.List.FromFn.{get_or-map-range_with_len}
 use Rattle.std.proofs.ByRecursion.{All-get_or}
 use Rattle.model.specs.Types.{TreeType}
-use Rattle.model.specs.Turns.{Side, left, right, Pattern, p_leaf, p_node, p_part, Turn, depth, pattern_place, WellFormedPattern}
+use Rattle.model.specs.Turns.{Side, left, right, Pattern, p_leaf, p_node, p_part, Turn, pattern_place, WellFormedPattern}
 use Rattle.model.specs.Jobs.{Shallow}
 use Rattle.model.specs.Rows.{pattern_row}
 use Rattle.rows.specs.declared.trees.Item.{Item}
@@ -16,9 +16,9 @@ use Rattle.rows.specs.Numbered.{number}
 use Rattle.rows.specs.Jobs.{Begins, Indexed, JobKnown}
 use Rattle.rows.specs.Tables.{type_in}
 use Rattle.signatures.specs.declared.evaluate.JobAutomaton.{JobAutomaton}
-use Rattle.signatures.specs.Signatures.{signature, pattern_kind, state_kind, part_kind, no_part_kind, job_automaton}
-use Rattle.signatures.specs.Parsing.{turn_in, job_of}
-use Rattle.signatures.specs.Evaluating.{Bounded, Evaluable, Signed, Signable, item_signature, item_pattern, item_mark, item_place}
+use Rattle.signatures.specs.Signatures.{signature, pattern_kind, part_kind, no_part_kind, job_automaton}
+use Rattle.signatures.specs.Parsing.{job_of}
+use Rattle.signatures.specs.Evaluating.{Bounded, Evaluable, Signed, Signable, item_signature, item_pattern, item_place}
 use Rattle.automata.specs.Automata.{Reached}
 use Rattle.model.specs.Jobs.{made_by}
 use Rattle.model.proofs.KindsBelow.{kind_below}

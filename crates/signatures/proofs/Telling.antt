@@ -6,7 +6,6 @@ use Rattle.model.specs.Types.{contains}
 use Rattle.model.specs.Jobs.{Job, Alike, Comes, Good, FitsAll, WellFormedJob}
 use Rattle.automata.specs.Automata.{TreeAutomaton, sig}
 use Rattle.automata.specs.Classes.{at, Has, Least, OneOfEach, Classes}
-use Rattle.automata.specs.Laws.{Closed}
 use Rattle.automata.proofs.Growing.{alike_nodes}
 use Rattle.automata.proofs.Finiteness.{finite}
 use Rattle.automata.proofs.Counting.{counted}

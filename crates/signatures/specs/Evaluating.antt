@@ -1,8 +1,8 @@
 -- Patterns evaluated on kinds, without making trees.
-use Rattle.std.specs.Prelude.{◌≡◌, ℕ, ◌+◌, ◌*◌, ◌<◌, ◌≤◌, ◌⊎◌, List, length, slice_index_or}
+use Rattle.std.specs.Prelude.{◌≡◌, ℕ, ◌+◌, ◌*◌, ◌<◌, ◌≤◌, List, length, slice_index_or}
 use Rattle.model.specs.Turns.{Side, Pattern, p_leaf, p_node, p_part, depth, pattern_place, leaf_pattern, node_pattern}
 use Rattle.model.specs.Rows.{pattern_row}
-use Rattle.rows.specs.Jobs.{Begins, JobKnown}
+use Rattle.rows.specs.Jobs.{Begins}
 use Rattle.rows.specs.Tables.{type_in}
 use Rattle.signatures.specs.declared.evaluate.JobAutomaton.{JobAutomaton}
 use Rattle.signatures.specs.declared.evaluate.Valued.{Valued}

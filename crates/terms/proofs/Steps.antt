@@ -2,9 +2,9 @@
 use Rattle.std.proofs.Common.{◌≡◌, ℕ, ◌+◌, ◌<◌, ◌≤◌, List, [], ◌∷◌, ◌++◌, length, get_or, take, Option, sym, refl, ap, ◌∙◌, subst, append_assoc, append-nil, arith, take_all}
 use Rattle.std.proofs.lemmas.List.{take_more}
 use Rattle.std.specs.List.{flat_map}
-use Rattle.model.specs.Trees.{Tree, leaf, node, Marked}
+use Rattle.model.specs.Trees.{leaf, node}
 use Rattle.model.specs.Rows.{tree_row}
-use Rattle.terms.specs.Beginnings.{IsTree, AllMarked, Begins, ReadTo, GoesOn}
+use Rattle.terms.specs.Beginnings.{IsTree, Begins, ReadTo, GoesOn}
 
 -- the row of a tree is that of any words equal to it
 same_tree : (m : ℕ) (s u : List ℕ) → s ≡ u → IsTree m s → IsTree m u

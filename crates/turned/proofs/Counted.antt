@@ -1,6 +1,6 @@
 -- Counted first, then written: what the two walks over the result come to.
 -- A walk that stops early has put out fewer leaves and nodes than the result has, so that there is no room for it.
-use Rattle.std.proofs.Common.{◌≡◌, ℕ, ◌+◌, ◌-◌, ◌^◌, ◌<◌, ◌≤◌, min, Bool, true, false, ◌⊎◌, List, [], ◌∷◌, ◌++◌, length, drop, sym, refl, ap, ◌∙◌, subst, inl, inr, arith}
+use Rattle.std.proofs.Common.{◌≡◌, ℕ, ◌-◌, ◌^◌, ◌<◌, ◌≤◌, min, Bool, true, false, ◌⊎◌, List, [], ◌++◌, length, drop, sym, refl, inl, inr, arith}
 use Rattle.std.proofs.lemmas.Bool.{true≢false}
 use Rattle.transduce.specs.declared.source.Source.{Source}
 use Rattle.transduce.specs.Framed.{SourceKnown, result_row}

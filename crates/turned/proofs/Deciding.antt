@@ -1,13 +1,11 @@
 -- What was decided of a known job, as the promise of the call says it; and that the work words asked for are enough.
-use Rattle.std.proofs.Common.{◌≡◌, ℕ, ◌+◌, ◌*◌, ◌/◌, ◌<◌, ◌≤◌, List, length, take, sym, refl, ap, ◌∙◌, subst, add-mul, mul-le-mul_left, mul-add, arith}
-use Rattle.model.specs.Rows.{tree_row, Rows}
+use Rattle.std.proofs.Common.{ℕ, ◌+◌, ◌*◌, ◌/◌, ◌≤◌, List, mul-le-mul_left, arith}
+use Rattle.model.specs.Rows.{Rows}
 use Rattle.model.specs.Jobs.{Job}
-use Rattle.table.specs.Layout.{size_words, row_words, words_for}
-use Rattle.verdict.specs.declared.Verdict.{Verdict}
+use Rattle.table.specs.Layout.{words_for}
 use Rattle.verdict.specs.declared.Verdict.TheVariants.{Many, Fits, TooLong, Breaks}
 use Rattle.verdict.specs.Verdicts.{Decides}
-use Rattle.turned.specs.declared.Judged.{Judged}
-use Rattle.turned.specs.Judging.{Judging, IsFit, IsBroken, HasMany, IsOutFull}
+use Rattle.turned.specs.Judging.{IsFit, IsBroken, HasMany, IsOutFull}
 
 pub enough_words : (w n : ℕ) → w ≤ 65 → words_for w n + n ≤ (n + 1) * (256 + n)
 enough_words w n h =

@@ -1,6 +1,6 @@
 -- The laws of filling in: by induction on the pattern; the arithmetic of capped counts by itself.
-use Rattle.std.proofs.Common.{◌≡◌, ℕ, ◌+◌, ◌<◌, min, ◌⊎◌, ◌↔◌, List, [], ◌∷◌, ◌++◌, length, sym, refl, ap, ◌∙◌, inl, inr, arith, length-append}
-use Rattle.model.specs.Trees.{Tree, leaf, node}
+use Rattle.std.proofs.Common.{◌≡◌, ℕ, length, refl, inl, inr, arith, length-append}
+use Rattle.model.specs.Trees.{Tree}
 use Rattle.model.specs.Turns.{Side, Pattern, p_leaf, p_node, p_part, filled}
 use Rattle.model.specs.Rows.{tree_row}
 use Rattle.turned.specs.Filling.{filled_row, filled_length, Uses, FillingLaws}

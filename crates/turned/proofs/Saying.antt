@@ -1,8 +1,7 @@
 -- What was found of the job, the tree and its result, as the promise of the call says it.
-use Rattle.std.proofs.Common.{◌≡◌, ℕ, ◌-◌, Bool, true, false, List, ◌++◌, length, take, drop, sym, refl, ap, ◌∙◌, subst, arith}
+use Rattle.std.proofs.Common.{◌≡◌, ℕ, true, List, take, drop, sym, ap, ◌∙◌, arith}
 use Rattle.std.proofs.lemmas.List.{take_at, drop_at}
-use Rattle.model.specs.Types.{kind, is_of, contains}
-use Rattle.rows.specs.Standing.{slice}
+use Rattle.model.specs.Types.{is_of}
 use Rattle.rows.specs.Jobs.{job_in}
 use Rattle.rows.specs.Tables.{type_in}
 use Rattle.transduce.specs.declared.source.Source.{Source}

@@ -1,19 +1,14 @@
 -- The two calls together. Rows say one job, so that both calls speak of the same; and what a well-formed turn makes of a tree
 -- has marks of the job, by induction on the pattern and on the tree.
-use Rattle.std.proofs.Common.{◌≡◌, ℕ, ◌+◌, ◌*◌, ◌<◌, Bool, true, false, List, length, get_or, take, sym, refl, ap, ◌∙◌, subst, arith}
-use Rattle.std.specs.List.{AllByRecursion as All}
+use Rattle.std.proofs.Common.{◌≡◌, ℕ, ◌*◌, ◌<◌, Bool, true, false, get_or, sym, subst, arith}
 use Rattle.std.proofs.lemmas.Bool.{false≢true}
 use Rattle.std.proofs.lemmas.Nat.{mul-add-lt}
 use Rattle.std.proofs.ByRecursion.{All-get_or}
 use Rattle.model.specs.Trees.{Tree, leaf, node, Marked}
 use Rattle.model.specs.Turns.{Side, left, right, Pattern, p_leaf, p_node, p_part, Turn, filled, of_parts, no_part, made, pattern_place, WellFormedPattern, WellFormedTurn}
 use Rattle.model.specs.Jobs.{Job, Comes, Good, result}
-use Rattle.model.specs.Rows.{tree_row, Rows}
 use Rattle.model.proofs.Prefix.{row_laws}
-use Rattle.turned.specs.declared.Judged.TheVariants.{Fits}
-use Rattle.turned.specs.declared.Done.TheVariants.{Result}
-use Rattle.turned.specs.Turning.{DonePost}
-use Rattle.turned.specs.Judging.{JudgedPost, OfSecond, CallsTogether}
+use Rattle.turned.specs.Judging.{CallsTogether}
 
 filled_marked : (m n : ℕ) (parts : Bool) (part : ℕ → Side → Tree) → (parts ≡ true → (q : ℕ) (s : Side) → q < n → Marked m (part q s))
     → (p : Pattern) → WellFormedPattern m n parts p → Marked m (filled part p)

@@ -1,5 +1,5 @@
 -- What `turn` promises.
-use Rattle.std.specs.Prelude.{◌≡◌, ℕ, ◌+◌, ◌*◌, ◌<◌, Bool, true, false, ◌↔◌, List, length, take, drop}
+use Rattle.std.specs.Prelude.{◌≡◌, ℕ, ◌+◌, ◌*◌, ◌<◌, false, ◌↔◌, List, length, take, drop}
 use Rattle.model.specs.Trees.{Tree, Marked}
 use Rattle.model.specs.Types.{is_of}
 use Rattle.model.specs.Jobs.{Job, Comes, result}

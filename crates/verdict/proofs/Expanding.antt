@@ -1,6 +1,6 @@
 -- One leaf or node taken off the trees whose ranks stand on a stack: a link says what a tree begins with, and its parts have
 -- lower ranks, so that a stack with as many places as there are ranks never overflows.
-use Rattle.std.proofs.Common.{◌≡◌, ℕ, ◌+◌, ◌-◌, ◌<◌, ◌≤◌, List, [], ◌∷◌, ◌++◌, length, get_or, drop, set, sym, refl, ap, ◌∙◌, subst, append_assoc, arith, length-drop}
+use Rattle.std.proofs.Common.{◌≡◌, ℕ, ◌+◌, ◌-◌, ◌<◌, ◌≤◌, List, [], ◌∷◌, ◌++◌, length, get_or, drop, set, sym, ap, ◌∙◌, subst, append_assoc, arith, length-drop}
 use Rattle.std.proofs.lemmas.List.{drop_more, drop-set, length-set}
 use Rattle.model.specs.Trees.{Tree, leaf, node}
 use Rattle.model.specs.Rows.{tree_row}

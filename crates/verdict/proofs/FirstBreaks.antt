@@ -1,8 +1,8 @@
 -- The first of the least trees that breaks a job is the least of all that break it: another that does so is alike to one of the
 -- list, which breaks the job too, and so stands no earlier; and it is not less than that one.
-use Rattle.std.proofs.Common.{◌≡◌, ℕ, ◌<◌, Bool, true, false, not, ◌&&◌, ◌⊎◌, List, length, sym, ap, ◌∙◌, subst, inl, inr, arith}
+use Rattle.std.proofs.Common.{◌≡◌, ℕ, ◌<◌, Bool, true, false, not, ◌&&◌, List, length, sym, ap, ◌∙◌, subst, inl, inr, arith}
 use Rattle.std.proofs.lemmas.Bool.{true≢false, not-true, not_from_false, and_parts, and_from}
-use Rattle.model.specs.Trees.{Tree, Marked, Less}
+use Rattle.model.specs.Trees.{Tree, Less}
 use Rattle.model.specs.Types.{contains, is_of}
 use Rattle.model.specs.Jobs.{Job, Alike, Comes, Good, FitsAll, result, WellFormedJob}
 use Rattle.automata.specs.Classes.{at}

@@ -1,5 +1,5 @@
 -- A table in which all classes are found, read off: its least trees by rank, and what their signatures say of the job.
-use Rattle.std.proofs.Common.{◌≡◌, ℕ, ◌<◌, ◌≤◌, Bool, true, false, not, ◌&&◌, List, length, Some, None, sym, refl, ap, ◌∙◌, subst, arith}
+use Rattle.std.proofs.Common.{◌≡◌, ℕ, ◌<◌, Bool, not, ◌&&◌, List, length, Some, None, sym, ap, ◌∙◌, subst, arith}
 use Rattle.model.specs.Trees.{Tree, size}
 use Rattle.model.specs.Types.{contains, is_of}
 use Rattle.model.specs.Jobs.{Job, FitsAll, WellFormedJob}

@@ -1,7 +1,7 @@
 -- A tree written from its links: the words that are written, and those of the trees whose ranks stand on the stack, are
 -- together the tree's row; at the end the stack is empty.
 use Rattle.std.proofs.Common.{◌≡◌, ℕ, ◌+◌, ◌-◌, ◌*◌, ◌<◌, ◌≤◌, List, [], ◌∷◌, ◌++◌, length, take, drop, set, sym, refl, ap, ◌∙◌, append_assoc, append-nil, arith, length-append}
-use Rattle.std.proofs.lemmas.List.{drop-set, drop_all, take_at, drop_at, length-set}
+use Rattle.std.proofs.lemmas.List.{drop-set, drop_all, take_at, drop_at}
 use Rattle.model.specs.Trees.{Tree, size}
 use Rattle.model.specs.Rows.{tree_row}
 use Rattle.model.proofs.Prefix.{tree_words}

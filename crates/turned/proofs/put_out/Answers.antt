@@ -1,4 +1,4 @@
-use Rattle.std.proofs.Common.{◌≡◌, ℕ, ◌≤◌, List, ◌++◌, length, drop, sym, ap, ◌∙◌, subst, inl, inr, arith}
+use Rattle.std.proofs.Common.{ℕ, ◌≤◌, List, ◌++◌, length, drop, sym, ap, ◌∙◌, subst, inl, inr, arith}
 use Rattle.transduce.specs.Framed.{result_row}
 use Rattle.transduce.specs.Walks.{Walked}
 use Rattle.turned.specs.declared.Done.TheVariants.{Result, Full}

@@ -1,4 +1,4 @@
-use Rattle.std.proofs.Common.{◌≡◌, ℕ, refl, ap, ◌∙◌}
+use Rattle.std.proofs.Common.{refl, ap, ◌∙◌}
 use Rattle.table.specs.declared.Shape.{Shape}
 use Rattle.signatures.specs.Parsing.{job_of}
 use Rattle.signatures.proofs.ParsedJobs.{rows_found}

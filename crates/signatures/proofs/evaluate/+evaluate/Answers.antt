@@ -1,4 +1,4 @@
-use Rattle.std.proofs.Common.{◌≡◌, ℕ, ◌+◌, ◌-◌, sym, subst, arith}
+use Rattle.std.proofs.Common.{ℕ, ◌-◌, sym, subst, arith}
 use Rattle.rows.proofs.PatternEnds.{as_step}
 use Rattle.signatures.specs.Evaluating.{Evaluable}
 use Rattle.signatures.proofs.Evaluated.{no_step, leaf_mark, leaf_value, part_value, inner, node_value}

@@ -1,4 +1,4 @@
-use Rattle.std.proofs.Common.{◌<◌, ◌≤◌, length, arith}
+use Rattle.std.proofs.Common.{◌≤◌, arith}
 use Rattle.std.proofs.lemmas.List.{length-set}
 use Rattle.verdict.proofs.Expanding.{leaf_taken, node_taken, rank_low, low_rest, top_positive, low_pushed}
 use Rattle.verdict.proofs.trees.expand.Goals as goal

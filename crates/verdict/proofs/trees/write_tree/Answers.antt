@@ -1,10 +1,9 @@
-use Rattle.std.proofs.Common.{◌≡◌, ◌<◌, ◌≤◌, List, [], ◌∷◌, length, drop, sym, ap, ◌∙◌, subst, append-nil, arith}
+use Rattle.std.proofs.Common.{drop, sym, ap, ◌∙◌, subst, append-nil, arith}
 use Rattle.std.proofs.lemmas.List.{drop_all, length-set}
-use Rattle.model.specs.Trees.{Tree}
 use Rattle.model.specs.Rows.{tree_row}
 use Rattle.automata.specs.Classes.{at}
-use Rattle.verdict.specs.Ranked.{Holds, Low, rows_of}
-use Rattle.verdict.proofs.Writing.{one_rank, begun, used_within, finished, further, more_used}
+use Rattle.verdict.specs.Ranked.{Low, rows_of}
+use Rattle.verdict.proofs.Writing.{one_rank, begun, finished, further, more_used}
 use Rattle.verdict.proofs.trees.write_tree.Goals as goal
 
 pub loop-top-init : goal.loop-top-init

@@ -1,4 +1,3 @@
-use Rattle.std.proofs.Common.{arith}
 use Rattle.signatures.proofs.Signing.{reached_signed}
 use Rattle.signatures.proofs.evaluate.JobAutomatonAutomaton.node.Goals as goal
 

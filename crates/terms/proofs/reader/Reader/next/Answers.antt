@@ -1,4 +1,4 @@
-use Rattle.std.proofs.Common.{◌≡◌, ◌+◌, ◌-◌, refl, arith, rules}
+use Rattle.std.proofs.Common.{◌≡◌, ◌+◌, ◌-◌, refl, rules}
 use Rattle.terms.proofs.Steps.{leaf_read, node_read, whole}
 use Rattle.terms.proofs.reader.Reader.next.Goals as goal
 
