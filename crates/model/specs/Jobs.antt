@@ -1,6 +1,6 @@
 -- Jobs: a type for what comes in, a turn, and a type for what is to come out.
 use Rattle.std.specs.Prelude.{◌≡◌, ℕ, ◌<◌, ◌≤◌, true}
-use Rattle.std.specs.List.{AllByRecursion as All}
+use Rattle.std.specs.List.{AllByRecursion}
 use Rattle.model.specs.Trees.{Tree, Marked}
 use Rattle.model.specs.Types.{TreeType, kind, is_of, WellFormedType}
 use Rattle.model.specs.Turns.{Pattern, Turn, depth, made, WellFormedTurn}
@@ -55,5 +55,5 @@ pub record WithinLimits (j : Job) : Type 0 where
   pub few_from : j.from.kinds ≤ 64
   pub few_states : j.turn.states ≤ 64
   pub few_to : j.to.kinds ≤ 64
-  pub leaf_depths : All Shallow j.turn.on_leaf
-  pub node_depths : All Shallow j.turn.on_node
+  pub leaf_depths : AllByRecursion Shallow j.turn.on_leaf
+  pub node_depths : AllByRecursion Shallow j.turn.on_node

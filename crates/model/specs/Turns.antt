@@ -1,6 +1,6 @@
 -- Turns: total deterministic top-down tree transducers, which may copy parts and drop them.
 use Rattle.std.specs.Prelude.{◌≡◌, ℕ, ◌+◌, ◌*◌, ◌<◌, ◌≤◌, max, Bool, true, false, List, length, slice_index_or}
-use Rattle.std.specs.List.{AllByRecursion as All}
+use Rattle.std.specs.List.{AllByRecursion}
 use Rattle.model.specs.Trees.{Tree, leaf, node}
 
 -- which part of a node
@@ -69,5 +69,5 @@ pub record WellFormedTurn (m : ℕ) (t : Turn) : Type 0 where
   pub some_state : 1 ≤ t.states
   pub leaf_count : length t.on_leaf ≡ t.states * m
   pub node_count : length t.on_node ≡ t.states * m
-  pub leaf_patterns : All (WellFormedPattern m t.states false) t.on_leaf
-  pub node_patterns : All (WellFormedPattern m t.states true) t.on_node
+  pub leaf_patterns : AllByRecursion (WellFormedPattern m t.states false) t.on_leaf
+  pub node_patterns : AllByRecursion (WellFormedPattern m t.states true) t.on_node

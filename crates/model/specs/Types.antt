@@ -1,6 +1,6 @@
 -- Types of trees: complete deterministic bottom-up tree automata, given by their tables.
 use Rattle.std.specs.Prelude.{◌≡◌, ℕ, ◌+◌, ◌*◌, ◌<◌, ◌≤◌, Bool, false, ◌||◌, List, [], ◌∷◌, length, ◌==◌, slice_index}
-use Rattle.std.specs.List.{AllByRecursion as All}
+use Rattle.std.specs.List.{AllByRecursion}
 use Rattle.model.specs.Trees.{Tree, leaf, node}
 
 -- A kind is a state of the automaton, a wanted kind an accepting one.
@@ -37,7 +37,7 @@ abbrev pub is_of : TreeType → Tree → Bool
 is_of t x = contains t.wanted (kind t x)
 
 abbrev pub Below : ℕ → List ℕ → Type 0
-Below n xs = All (λ x. x < n) xs
+Below n xs = AllByRecursion (λ x. x < n) xs
 
 -- the tables are whole for m marks, and every kind in them is one of the type's
 pub record WellFormedType (m : ℕ) (t : TreeType) : Type 0 where

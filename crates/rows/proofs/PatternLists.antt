@@ -1,7 +1,7 @@
 -- Patterns one behind the other: as long as each is found, a list of patterns that stands there begins with those found,
 -- and what is left of it stands behind them. One more pattern found is one more at the end of the list.
 use Rattle.std.proofs.Common.{◌≡◌, ℕ, ◌+◌, ◌<◌, ◌≤◌, List, [], ◌∷◌, ◌++◌, length, get_or, take, drop, Some, sym, refl, ap, ◌∙◌, subst, inl, inr, append_assoc, arith, length-drop, take-append-drop, length-take}
-use Rattle.std.specs.List.{flat_map, AllByRecursion as All}
+use Rattle.std.specs.List.{flat_map, AllByRecursion}
 use Rattle.std.proofs.lemmas.List.{append-nil, get_or_append_left, get_or_push, length_push}
 use Rattle.std.proofs.ByRecursion.{All-push, All-drop}
 use Rattle.std.proofs.lemmas.Bool.{cases_eq}
@@ -30,7 +30,7 @@ behind s at here xs ps rest st l e =
     (joined_apart pattern_row patterns_apart xs (take n ps) (drop here s) (patterns_row (drop n ps) ++ rest) (sym (simp length-take (omega arith))) e').1
 
 module _ (s old new : List ℕ) (at here first count i : ℕ) (b : Bounds) (known : PatternsKnown s old new at here first i b) where
-  first_of : (qs : List Pattern) (rest : List ℕ) → 1 ≤ length qs → All (PatternOk 64 b) qs → drop here s ≡ patterns_row qs ++ rest → Absent pattern_row (PatternOk 64 b) s here → ⊥
+  first_of : (qs : List Pattern) (rest : List ℕ) → 1 ≤ length qs → AllByRecursion (PatternOk 64 b) qs → drop here s ≡ patterns_row qs ++ rest → Absent pattern_row (PatternOk 64 b) s here → ⊥
   first_of [] rest l ok e absent = omega arith
   first_of (q ∷ qs) rest l ok e absent = absent q (patterns_row qs ++ rest) ok.0 (e ∙ append_assoc (pattern_row q) (patterns_row qs) rest)
 

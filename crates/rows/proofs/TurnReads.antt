@@ -1,7 +1,7 @@
 -- Turns at a place: the number of states, then two lists of patterns, each of which is found or is absent.
 -- What the index notes of the first list lasts while the second is noted behind it.
 use Rattle.std.proofs.Common.{◌≡◌, ℕ, ◌+◌, ◌-◌, ◌*◌, ◌<◌, ◌≤◌, Bool, true, false, ◌⊎◌, List, [], ◌∷◌, ◌++◌, length, get_or, drop, Some, sym, refl, ap, ◌∙◌, subst, inl, inr, append_assoc, arith, length-append, length-drop}
-use Rattle.std.specs.List.{AllByRecursion as All}
+use Rattle.std.specs.List.{AllByRecursion}
 use Rattle.std.proofs.ByRecursion.{All-weaker}
 use Rattle.model.specs.Turns.{Pattern, p_leaf, p_node, p_part, Turn, WellFormedPattern}
 use Rattle.model.specs.Jobs.{Shallow}
@@ -14,7 +14,7 @@ use Rattle.rows.specs.Jobs.{Begins, PatternsOk, PatternsKnown, TurnOk, TurnRead}
 use Rattle.rows.proofs.Stood.{uncons, one, both}
 
 -- two facts of each element are one
-all_both : {A : Type 0} (P Q R : A → Type 0) → ((x : A) → P x → Q x → R x) → (xs : List A) → All P xs → All Q xs → All R xs
+all_both : {A : Type 0} (P Q R : A → Type 0) → ((x : A) → P x → Q x → R x) → (xs : List A) → AllByRecursion P xs → AllByRecursion Q xs → AllByRecursion R xs
 all_both P Q R f [] p q = tt
 all_both P Q R f (x ∷ xs) p q = (f x p.0 q.0, all_both P Q R f xs p.1 q.1)
 
@@ -31,7 +31,7 @@ patterns_long (p ∷ ps) = omega (arith, length-append (pattern_row p) (patterns
 abbrev bounds : ℕ → ℕ → Bool → Bounds
 bounds m n parts = record { marks = m; states = n; parts = parts }
 
-patterns_ok : (m n k : ℕ) (parts : Bool) (ps : List Pattern) → length ps ≡ k → All (WellFormedPattern m n parts) ps → All Shallow ps → PatternsOk k (bounds m n parts) ps
+patterns_ok : (m n k : ℕ) (parts : Bool) (ps : List Pattern) → length ps ≡ k → AllByRecursion (WellFormedPattern m n parts) ps → AllByRecursion Shallow ps → PatternsOk k (bounds m n parts) ps
 patterns_ok m n k parts ps l w d = record {
   long = l;
   each = all_both (WellFormedPattern m n parts) Shallow (PatternOk 64 (bounds m n parts)) (λ p a b. record { well_formed = a; shallow = b }) ps w d;
@@ -51,7 +51,7 @@ module _ (s : List ℕ) (at m : ℕ) where
       let f = uncons s at (at + 1) t.states ((patterns_row t.on_leaf ++ patterns_row t.on_node) ++ rest) refl d in
       let same : t.states ≡ n = sym f.word ∙ e in
       let w = ok.well_formed in
-      let as_n : (k : ℕ) (parts : Bool) (ps : List Pattern) → All (WellFormedPattern m t.states parts) ps → All (WellFormedPattern m n parts) ps = λ k parts ps h. subst (λ (x : ℕ). All (WellFormedPattern m x parts) ps) same h in
+      let as_n : (k : ℕ) (parts : Bool) (ps : List Pattern) → AllByRecursion (WellFormedPattern m t.states parts) ps → AllByRecursion (WellFormedPattern m n parts) ps = λ k parts ps h. subst (λ (x : ℕ). AllByRecursion (WellFormedPattern m x parts) ps) same h in
       let many : t.states * m ≡ n * m = ap (λ (x : ℕ). x * m) same in
       record {
         within = f.within;
@@ -91,9 +91,9 @@ module _ (s : List ℕ) (at m : ℕ) where
       some_turn new z in_s low high room r =
           let ls = l.patterns in
           let rs = r.patterns in
-          let formed : (parts : Bool) (ps : List Pattern) → All (PatternOk 64 (bounds m n parts)) ps → All (WellFormedPattern m n parts) ps =
+          let formed : (parts : Bool) (ps : List Pattern) → AllByRecursion (PatternOk 64 (bounds m n parts)) ps → AllByRecursion (WellFormedPattern m n parts) ps =
           λ parts ps h. All-weaker (PatternOk 64 (bounds m n parts)) (WellFormedPattern m n parts) (λ p o. o.well_formed) ps h in
-          let deep : (parts : Bool) (ps : List Pattern) → All (PatternOk 64 (bounds m n parts)) ps → All Shallow ps =
+          let deep : (parts : Bool) (ps : List Pattern) → AllByRecursion (PatternOk 64 (bounds m n parts)) ps → AllByRecursion Shallow ps =
           λ parts ps h. All-weaker (PatternOk 64 (bounds m n parts)) Shallow (λ p o. o.shallow) ps h in
           record {
             turns = record { states = n; on_leaf = ls; on_node = rs };

@@ -1,6 +1,6 @@
 -- Turns and jobs by the places of their parts.
 use Rattle.std.specs.Prelude.{◌≡◌, ℕ, ◌+◌, ◌*◌, ◌<◌, ◌≤◌, List, length, Some, None, Ok, Err, Option, Result, slice_index_or}
-use Rattle.std.specs.List.{AllByRecursion as All}
+use Rattle.std.specs.List.{AllByRecursion}
 use Rattle.model.specs.Turns.{Pattern, p_leaf, Turn, WellFormedTurn}
 use Rattle.model.specs.Jobs.{Job, Shallow}
 use Rattle.model.specs.Rows.{pattern_row, patterns_row, turn_row, Rows}
@@ -21,7 +21,7 @@ Begins s at xs = Stands s at (at + length xs) xs
 -- so many patterns, each within the bounds and at most 64 deep
 pub record PatternsOk (count : ℕ) (b : Bounds) (ps : List Pattern) : Type 0 where
   pub long : length ps ≡ count
-  pub each : All (PatternOk 64 b) ps
+  pub each : AllByRecursion (PatternOk 64 b) ps
 
 -- the index notes where these patterns begin, from number `first` on
 abbrev pub Indexed : List ℕ → List ℕ → ℕ → List Pattern → Type 0
@@ -43,8 +43,8 @@ PatternsRead s old new at first count b (Some end) = PatternsKnown s old new at 
 pub record TurnOk (m : ℕ) (t : Turn) : Type 0 where
   pub well_formed : WellFormedTurn m t
   pub few_states : t.states ≤ 64
-  pub leaf_depths : All Shallow t.on_leaf
-  pub node_depths : All Shallow t.on_node
+  pub leaf_depths : AllByRecursion Shallow t.on_leaf
+  pub node_depths : AllByRecursion Shallow t.on_node
 
 -- a turn stands in s, and the index notes where its patterns begin: those for leaves, then those for nodes
 pub record TurnKnown (s index : List ℕ) (m at : ℕ) (p : TurnPlaces) : Type 0 where

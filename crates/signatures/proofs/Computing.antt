@@ -1,7 +1,7 @@
 -- The automaton of a job computes signatures: the kind of a filled pattern is found from the kinds of its parts, by induction
 -- on the pattern, and the state of a tree from those of its parts, by induction on the tree.
 use Rattle.std.proofs.Common.{◌≡◌, ℕ, zero, suc, ◌+◌, ◌<◌, Bool, true, false, List, [], ◌∷◌, map, get_or, sym, refl, ap, ◌∙◌, arith}
-use Rattle.std.specs.List.{range_with_len, AllByRecursion as All}
+use Rattle.std.specs.List.{range_with_len, AllByRecursion}
 use Rattle.std.proofs.lemmas.List.FromFn.{get_or-map-range_with_len}
 use Rattle.model.specs.Trees.{Tree, leaf, node}
 use Rattle.model.specs.Types.{TreeType, kind}
@@ -20,7 +20,7 @@ filled_kind t part kinds m n parts (p_node a x y) w f =
 filled_kind t part kinds m n parts (p_part q s) w f = f q s w.0
 
 -- a pattern of a table, or the one that stands for what is not there
-pattern_fits : (m n : ℕ) (parts : Bool) (ps : List Pattern) (i : ℕ) → 0 < m → All (WellFormedPattern m n parts) ps → WellFormedPattern m n parts (get_or ps i (p_leaf 0))
+pattern_fits : (m n : ℕ) (parts : Bool) (ps : List Pattern) (i : ℕ) → 0 < m → AllByRecursion (WellFormedPattern m n parts) ps → WellFormedPattern m n parts (get_or ps i (p_leaf 0))
 pattern_fits m n parts [] i h w = h
 pattern_fits m n parts (p ∷ ps) zero h w = w.0
 pattern_fits m n parts (p ∷ ps) (suc i) h w = pattern_fits m n parts ps i h w.1

@@ -1,6 +1,6 @@
 -- What is parsed from the words of a known job is that job: a pattern's row is parsed to the pattern, by induction on it.
 use Rattle.std.proofs.Common.{◌≡◌, ℕ, zero, suc, ◌+◌, ◌*◌, ◌<◌, ◌≤◌, List, ◌++◌, length, get_or, drop, sym, refl, ap, ◌∙◌, subst, append_assoc, arith}
-use Rattle.std.specs.List.{range_with_len, AllByRecursion as All}
+use Rattle.std.specs.List.{range_with_len, AllByRecursion}
 use Rattle.std.proofs.lemmas.List.{ext_get_or, get_or-map, length-map}
 use Rattle.std.proofs.ByRecursion.{All-get_or}
 use Rattle.model.specs.Turns.{Side, left, right, Pattern, p_leaf, p_node, p_part, Turn, depth}
@@ -42,7 +42,7 @@ getD_counting a zero i h = absurd (omega arith)
 getD_counting a (suc n) zero h = omega arith
 getD_counting a (suc n) (suc i) h = getD_counting (a + 1) n i (omega arith) ∙ omega arith
 
-patterns_found : (s index : List ℕ) (first count : ℕ) (ps : List Pattern) → length ps ≡ count → All Shallow ps → Indexed s index first ps → ps ≡ patterns_in s index first count
+patterns_found : (s index : List ℕ) (first count : ℕ) (ps : List Pattern) → length ps ≡ count → AllByRecursion Shallow ps → Indexed s index first ps → ps ≡ patterns_in s index first count
 patterns_found s index first count ps l shallow f =
     ext_get_or (p_leaf 0) ps (patterns_in s index first count) (l ∙ sym (length-map (range_with_len 0 count) _ ∙ length_counting 0 count)) (λ i h.
     let inside : i < count = omega arith in

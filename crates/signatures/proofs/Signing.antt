@@ -1,6 +1,6 @@
 -- The signature of a leaf or a node of a known job, word by word: its patterns stand where the index says, and can be evaluated.
 use Rattle.std.proofs.Common.{◌≡◌, ℕ, zero, suc, ◌+◌, ◌*◌, ◌<◌, Bool, true, false, List, length, get_or, sym, refl, ap, ◌∙◌, subst, add-one, arith}
-use Rattle.std.specs.List.{range_with_len, AllByRecursion as All}
+use Rattle.std.specs.List.{range_with_len, AllByRecursion}
 use Rattle.std.proofs.lemmas.Bool.{false≢true}
 use Rattle.std.proofs.lemmas.Nat.{mul-add-lt}
 use Rattle.std.proofs.lemmas.List.{ext_get_or, length-map}
@@ -38,7 +38,7 @@ bounded m n k parts f (p_part q s) w h = h w.1 q s w.0
 
 module _ (a : JobAutomaton) (k : JobKnown a.job.now a.index.now a.places) where
   -- one pattern of the turn, at its place
-  ready : (parts : Bool) (t : Turn) (ps : List Pattern) (first i at : ℕ) (l r : List ℕ) → Indexed a.job.now a.index.now first ps → All (WellFormedPattern a.places.marks a.places.turn.states parts) ps → All Shallow ps
+  ready : (parts : Bool) (t : Turn) (ps : List Pattern) (first i at : ℕ) (l r : List ℕ) → Indexed a.job.now a.index.now first ps → AllByRecursion (WellFormedPattern a.places.marks a.places.turn.states parts) ps → AllByRecursion Shallow ps
       → i < length ps → at ≡ number a.index.now (first + i) → (parts ≡ true → (q : ℕ) (s : Side) → q < a.places.turn.states → part_kind l r q s < a.places.to.kinds)
       → Evaluable a at 64 l r (get_or ps i (p_leaf 0))
   ready parts t ps first i at l r places formed shallow h e kinds = record {
@@ -53,8 +53,8 @@ module _ (a : JobAutomaton) (k : JobKnown a.job.now a.index.now a.places) where
       let same : k.turns.states * a.places.marks ≡ a.places.turn.states * a.places.marks = ap (λ (n : ℕ). n * a.places.marks) k.states in
       omega (arith, mul-add-lt q a.places.marks b a.places.turn.states p h)
 
-  as_states : (parts : Bool) (ps : List Pattern) → All (WellFormedPattern a.places.marks k.turns.states parts) ps → All (WellFormedPattern a.places.marks a.places.turn.states parts) ps
-  as_states parts ps h = subst (λ (n : ℕ). All (WellFormedPattern a.places.marks n parts) ps) k.states h
+  as_states : (parts : Bool) (ps : List Pattern) → AllByRecursion (WellFormedPattern a.places.marks k.turns.states parts) ps → AllByRecursion (WellFormedPattern a.places.marks a.places.turn.states parts) ps
+  as_states parts ps h = subst (λ (n : ℕ). AllByRecursion (WellFormedPattern a.places.marks n parts) ps) k.states h
 
   part_below : (l r : List ℕ) → Signed a l → Signed a r → (q : ℕ) (s : Side) → q < a.places.turn.states → part_kind l r q s < a.places.to.kinds
   part_below l r u v q left h = u.made q h

@@ -1,7 +1,7 @@
 -- Entering a subtree in a state: the frame of its pattern, which the index finds by state and mark.
 -- The words at the subtree's number tell whether it is a leaf or a node, and its mark.
 use Rattle.std.proofs.Common.{◌≡◌, ℕ, ◌+◌, ◌*◌, ◌<◌, Bool, true, false, List, [], ◌∷◌, length, get_or, Some, sym, refl, ap, ◌∙◌, subst, arith}
-use Rattle.std.specs.List.{AllByRecursion as All}
+use Rattle.std.specs.List.{AllByRecursion}
 use Rattle.std.proofs.lemmas.List.{append-nil}
 use Rattle.std.proofs.lemmas.Nat.{mul-add-lt}
 use Rattle.std.proofs.ByRecursion.{All-get_or}
@@ -50,7 +50,7 @@ module _ (src : Source) (k : SourceKnown src) where
       let same : k.job.turns.states * src.places.marks ≡ src.places.turn.states * src.places.marks = ap (λ (n : ℕ). n * src.places.marks) k.job.states in
       omega (arith, mul-add-lt q src.places.marks a src.places.turn.states p h)
 
-  formed : (parts : Bool) (ps : List Pattern) (i : ℕ) → i < length ps → All (WellFormedPattern src.places.marks k.job.turns.states parts) ps
+  formed : (parts : Bool) (ps : List Pattern) (i : ℕ) → i < length ps → AllByRecursion (WellFormedPattern src.places.marks k.job.turns.states parts) ps
       → WellFormedPattern src.places.marks src.places.turn.states parts (get_or ps i (p_leaf 0))
   formed parts ps i h all =
       subst (λ (n : ℕ). WellFormedPattern src.places.marks n parts (get_or ps i (p_leaf 0))) k.job.states

@@ -1,7 +1,7 @@
 -- One step of the walk: what is still to be put out begins with a leaf or a node, or is the same in the frame of a part.
 -- The first pattern of the frame is the one that begins with the step; the others and the frames below stay.
 use Rattle.std.proofs.Common.{◌≡◌, ℕ, suc, ◌+◌, ◌-◌, ◌*◌, ◌<◌, ◌≤◌, true, List, [], ◌∷◌, ◌++◌, length, drop, Some, None, sym, refl, ap, ◌∙◌, subst, append_assoc, arith, length-append}
-use Rattle.std.specs.List.{flat_map, AllByRecursion as All}
+use Rattle.std.specs.List.{flat_map, AllByRecursion}
 use Rattle.std.proofs.lemmas.List.{append-nil}
 use Rattle.std.proofs.lemmas.Bool.{false≢true}
 use Rattle.model.specs.Trees.{Tree, leaf, node, Marked}
@@ -141,7 +141,7 @@ module _ (src : Source) (k : SourceKnown src) where
 
     -- what is left of the frame behind words of its first pattern
     goes_on_with : (x : Tree) (qs ps : List Pattern) (w : List ℕ) (c : ℕ) (f : FrameKnown src k pos.here (record { tree = x; patterns = ps })) → patterns_row ps ≡ w ++ patterns_row qs
-        → All (WellFormedPattern m n (has_parts x)) qs → c ≡ length qs → 1 ≤ c
+        → AllByRecursion (WellFormedPattern m n (has_parts x)) qs → c ≡ length qs → 1 ≤ c
         → FrameKnown src k (record { node = pos.here.node; at = pos.here.at + length w; count = c }) (record { tree = x; patterns = qs })
     goes_on_with x qs ps w c f e ok l h = record {
       marked = f.marked;

@@ -1,6 +1,6 @@
 -- A job and a tree that were read, and frames: tasks as numbers in lent words.
 use Rattle.std.specs.Prelude.{◌≡◌, ℕ, ◌+◌, ◌-◌, ◌*◌, ◌≤◌, List, [], ◌∷◌, length, ◌≢◌}
-use Rattle.std.specs.List.{AllByRecursion as All}
+use Rattle.std.specs.List.{AllByRecursion}
 use Rattle.model.specs.Trees.{Tree, Marked}
 use Rattle.model.specs.Turns.{WellFormedPattern, made}
 use Rattle.model.specs.Rows.{tree_row, patterns_row}
@@ -41,7 +41,7 @@ pub record FrameKnown (src : Source) (k : SourceKnown src) (f : Frame) (x : Task
   pub subtree : Begins src.tree.now (2 * f.node) (tree_row x.tree)
   pub end : ℕ
   pub stands : Stands src.job.now f.at end (patterns_row x.patterns)
-  pub well_formed : All (WellFormedPattern src.places.marks src.places.turn.states (has_parts x.tree)) x.patterns
+  pub well_formed : AllByRecursion (WellFormedPattern src.places.marks src.places.turn.states (has_parts x.tree)) x.patterns
   pub counted : f.count ≡ length x.patterns
   pub some : 1 ≤ f.count
 
