@@ -4,6 +4,7 @@
 use rows::jobs::JobPlaces;
 use std::alloc::AllocError;
 use std::io::Read;
+use std::process::ExitCode;
 use std::{env, fmt, fs, io};
 use text::{Fault, Job, Mistake, Place, read_job};
 
@@ -159,10 +160,12 @@ fn run(rt: &HostRuntime) -> Result<(), Failure> {
     Ok(())
 }
 
-fn main(rt: HostRuntime) -> Result<(), Failure> {
-    let result = run(&rt);
-    if let Err(failure) = &result {
-        let _ = eprintln!(rt; "{failure}");
+fn main(rt: HostRuntime) -> ExitCode {
+    match run(&rt) {
+        Ok(()) => ExitCode::SUCCESS,
+        Err(failure) => {
+            let _ = eprintln!(rt; "{failure}");
+            ExitCode::FAILURE
+        }
     }
-    result
 }

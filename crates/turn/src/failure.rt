@@ -12,8 +12,6 @@ the reason, and the status is 1.";
 pub enum Failure {
     Usage,
     Memory,
-    // There was no result for some line.
-    Refused,
     // Standard input or output failed, or the file of the trees.
     Stream(io::Error),
     File {
@@ -41,7 +39,6 @@ impl fmt::Display for Failure {
         match self {
             Failure::Usage => f.write_str(USAGE),
             Failure::Memory => f.write_str("turn: not enough memory"),
-            Failure::Refused => f.write_str("turn: some lines have no result"),
             Failure::Stream(error) => write!(f, "turn: {error}"),
             Failure::File { file, error } => write!(f, "{file}: {error}"),
             Failure::TooLarge { file, most } => {

@@ -12,6 +12,7 @@ use failure::{Failure, USAGE};
 use lines::{Line, Lines};
 use refusal::{Refusal, RefusedLine};
 use std::io::{Read, Write};
+use std::process::ExitCode;
 use std::{env, fs, io};
 use text::Job;
 
@@ -115,13 +116,13 @@ fn run(rt: &HostRuntime) -> Result<bool, Failure> {
     }
 }
 
-fn main(rt: HostRuntime) -> Result<(), Failure> {
+fn main(rt: HostRuntime) -> ExitCode {
     match run(&rt) {
-        Ok(true) => Ok(()),
-        Ok(false) => Err(Failure::Refused),
+        Ok(true) => ExitCode::SUCCESS,
+        Ok(false) => ExitCode::FAILURE,
         Err(failure) => {
             let _ = eprintln!(rt; "{failure}");
-            Err(failure)
+            ExitCode::FAILURE
         }
     }
 }
