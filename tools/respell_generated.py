@@ -42,6 +42,7 @@ def main():
             known |= {w for w in re.findall(r'[A-Za-z]\w*', uncommented(read(f))) if '_' in w.strip('_')}
         joined = sorted(((k.replace('_', '-'), k) for k in known), key=lambda x: -len(x[0]))
         for f in glob.glob(f'crates/{crate}/proofs/**/*.antt', recursive=True):
+            # a lemma file, right in proofs/
             if f.count('/') < 4:
                 continue
             text = read(f)

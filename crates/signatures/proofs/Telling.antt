@@ -6,6 +6,7 @@ use Rattle.model.specs.Types.{contains}
 use Rattle.model.specs.Jobs.{Job, Alike, Comes, Good, FitsAll, WellFormedJob}
 use Rattle.automata.specs.Automata.{TreeAutomaton, sig}
 use Rattle.automata.specs.Classes.{at, Has, Least, OneOfEach, Classes}
+use Rattle.automata.specs.Laws.{Finite}
 use Rattle.automata.proofs.Growing.{alike_nodes}
 use Rattle.automata.proofs.Finiteness.{finite}
 use Rattle.automata.proofs.Counting.{counted}
@@ -64,9 +65,12 @@ module _ (j : Job) (w : WellFormedJob j) where
   by_parts a l l' r r' h k =
       from_states (node a l r) (node a l' r') (alike_nodes A a l l' r r' (to_states l l' h) (to_states r r' k))
 
+  few_signatures : Finite A (j.from.kinds * j.to.kinds ^ j.turn.states)
+  few_signatures = finite A _ (code j.to.kinds) (signatures_coded j w)
+
   pub all_classes : FewClasses j (j.from.kinds * j.to.kinds ^ j.turn.states)
   all_classes =
-      let f = finite A (j.from.kinds * j.to.kinds ^ j.turn.states) (code j.to.kinds) (signatures_coded j w) in
+      let f = few_signatures in
       record { trees = f.trees; classes = from_classes f.trees f.classes; few = f.few }
 
   -- any number of classes fewer than there are is passed by some trees that are not alike
@@ -83,15 +87,13 @@ module _ (j : Job) (w : WellFormedJob j) where
       ap (contains j.to.wanted) (sym (h.same_made 0 (omega (arith, w.turns.some_state))))
       ∙ f (record { marked = m; of_type = ap (contains j.from.wanted) h.same_kind ∙ c.of_type })
 
-  pub one_tells_all : (ts : List Tree) → JobClasses j ts → ((i : ℕ) → i < length ts → Comes j (at ts i) → Good j (at ts i)) → FitsAll j
-  one_tells_all ts o f y c =
-      let h = o.all y c.marked in
-      one_tells (at ts h.place) y (o.marks h.place h.within) h.alike (f h.place h.within) c
-
   one_tells_each : (ts : List Tree) → OneOfEach A ts → ((i : ℕ) → i < length ts → Comes j (at ts i) → Good j (at ts i)) → FitsAll j
   one_tells_each ts o f y c =
       let h = o.all y c.marked in
       one_tells (at ts h.place) y (o.marks h.place h.within) (from_states (at ts h.place) y h.alike) (f h.place h.within) c
+
+  pub one_tells_all : (ts : List Tree) → JobClasses j ts → ((i : ℕ) → i < length ts → Comes j (at ts i) → Good j (at ts i)) → FitsAll j
+  one_tells_all ts o = one_tells_each ts (to_each ts o)
 
   no_class_missed : (ts : List Tree) → ClosedAlike j ts → (y : Tree) → Marked j.marks y → HasAlike j ts y
   no_class_missed ts c y m =
@@ -105,7 +107,7 @@ laws = record {
   computed = computed;
   alike = λ j x y. (alike_signed j x y, signed_alike j x y);
   by_parts = by_parts;
-  finite = λ j w. finite (job_automaton j) _ (code j.to.kinds) (signatures_coded j w);
+  finite = few_signatures;
   one_tells = one_tells;
   one_tells_all = one_tells_each;
 }
