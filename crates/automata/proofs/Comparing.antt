@@ -15,9 +15,6 @@ transitive x y z h k = tree_order.order.transitive x y z h k
 pub asymmetric : (x y : Tree) → Less x y → Less y x → ⊥
 asymmetric x y h k = irreflexive x (transitive x y x h k)
 
-pub numbers_total : (a b : ℕ) → (a < b) ⊎ ((a ≡ b) ⊎ (b < a))
-numbers_total a b = elim (dec_lt a b) [ yes h ↦ inl h | no h ↦ elim (dec_lt b a) [ yes k ↦ inr (inr k) | no k ↦ inr (inl (omega arith)) ] ]
-
 pub le_less : (x y z : Tree) → Le x y → Less y z → Less x z
 le_less x y z (inl u) v = transitive x y z u v
 le_less x y z (inr e) v = rw e v

@@ -4,11 +4,12 @@ use Rattle.std.proofs.Common.{◌≡◌, ℕ, zero, suc, ◌<◌, List, [], leng
 use mathlib.Core.List.{List-discrete}
 use native.Mathlib.Decide.{ℕ_discrete}
 use Rattle.std.proofs.lemmas.List.{length_push}
+use Rattle.std.proofs.lemmas.Bool.{cases_order}
 use Rattle.model.specs.Trees.{Tree, leaf, node, Marked, Less, by_size}
 use Rattle.automata.specs.Automata.{TreeAutomaton, sig, Alike, Alphabet}
 use Rattle.automata.specs.Classes.{at, Le, Has, Least, AllMarked, Apart, Classes, MoreThan}
 use Rattle.automata.specs.Frontier.{Settled, Covered, LeavesCovered, NodesCovered}
-use Rattle.automata.proofs.Comparing.{le_less, le_le, le_not_less, not_less, node_le, leaf_mark_le, node_mark_le, numbers_total}
+use Rattle.automata.proofs.Comparing.{le_less, le_le, le_not_less, not_less, node_le, leaf_mark_le, node_mark_le}
 use Rattle.automata.proofs.Pushing.{push, at_before, at_last, push_all}
 
 pub alike_nodes : (A : TreeAutomaton) (a : ℕ) (l l' r r' : Tree) → Alike A l l' → Alike A r r' → Alike A (node a l r) (node a l' r')
@@ -66,9 +67,10 @@ module _ (A : TreeAutomaton) where
 
   pub settled_apart : (S : List Tree) → Settled A S → Apart A S
   settled_apart S s i k h g e =
-      elim (numbers_total i k) [
-        | inl u ↦ absurd (s.least k g (at S i) (s.marks i h) (s.order i k u g) e)
-        | inr w ↦ elim w [ inl q ↦ q | inr u ↦ absurd (s.least i h (at S k) (s.marks k g) (s.order k i u h) (sym e)) ]
+      elim (cases_order i k) [
+        | inl q ↦ q
+        | inr (inl u) ↦ absurd (s.least k g (at S i) (s.marks i h) (s.order i k u g) e)
+        | inr (inr u) ↦ absurd (s.least i h (at S k) (s.marks k g) (s.order k i u h) (sym e))
       ]
 
   -- a tree that is not greater than any tree of a class that is not settled

@@ -1,13 +1,14 @@
 -- Trees over a rising list are compared by size, mark and the places of their parts: each comparison of numbers is the
 -- comparison of what they stand for. And a least tree's parts are settled before it, so that sizes at most double.
 use Rattle.std.proofs.Common.{◌≡◌, ℕ, zero, suc, ◌^◌, ◌<◌, ◌≤◌, ◌⊎◌, ◌↔◌, List, length, sym, refl, ap, ◌∙◌, subst, inl, inr, arith, pow_pos, pow_mono}
-use Rattle.model.specs.Trees.{Tree, leaf, node, size, mark, Marked, Less, by_size, by_mark, by_left, by_right}
+use Rattle.std.proofs.lemmas.Bool.{cases_order}
+use Rattle.model.specs.Trees.{Tree, leaf, node, size, mark, Marked, Less, Lex, by_size, by_mark, by_left, by_right}
 use Rattle.model.proofs.Order.{size_positive}
 use Rattle.automata.specs.Automata.{TreeAutomaton}
 use Rattle.automata.specs.Classes.{at, Has, Least, Rising, Classes}
 use Rattle.automata.specs.Frontier.{Settled}
-use Rattle.automata.specs.Links.{Link, Placed, Linked, Lex, Precedes, Ties}
-use Rattle.automata.proofs.Comparing.{irreflexive, asymmetric, numbers_total, left_less, right_less}
+use Rattle.automata.specs.Links.{Link, Placed, Linked, Precedes, Ties}
+use Rattle.automata.proofs.Comparing.{irreflexive, asymmetric, left_less, right_less}
 use Rattle.automata.proofs.Growing.{alike_nodes, has_or_not, settled_le}
 
 pub linked_mark : (S : List Tree) (k : Link) (x : Tree) → Linked S k x → k.mark ≡ mark x
@@ -16,27 +17,19 @@ linked_mark S k (node a l r) e = e.0
 
 precedes_total : (k h : Link) → Precedes k h ⊎ (Ties k h ⊎ Precedes h k)
 precedes_total k h =
-    elim (numbers_total k.size h.size) [
-      | inl u ↦ inl (inl u)
-      | inr w ↦ elim w [
-        | inr u ↦ inr (inr (inl u))
-        | inl e ↦ elim (numbers_total k.mark h.mark) [
-          | inl u ↦ inl (inr (e, inl u))
-          | inr w ↦ elim w [
-            | inr u ↦ inr (inr (inr (sym e, inl u)))
-            | inl f ↦ elim (numbers_total k.left h.left) [
-              | inl u ↦ inl (inr (e, inr (f, inl u)))
-              | inr w ↦ elim w [
-                | inr u ↦ inr (inr (inr (sym e, inr (sym f, inl u))))
-                | inl g ↦ elim (numbers_total k.right h.right) [
-                  | inl u ↦ inl (inr (e, inr (f, inr (g, u))))
-                  | inr w ↦ elim w [
-                    | inr u ↦ inr (inr (inr (sym e, inr (sym f, inr (sym g, u)))))
-                    | inl q ↦ inr (inl (record { size = e; mark = f; left = g; right = q }))
-                  ]
-                ]
-              ]
-            ]
+    elim (cases_order k.size h.size) [
+      | inr (inl u) ↦ inl (inl u)
+      | inr (inr u) ↦ inr (inr (inl u))
+      | inl e ↦ elim (cases_order k.mark h.mark) [
+        | inr (inl u) ↦ inl (inr (e, inl u))
+        | inr (inr u) ↦ inr (inr (inr (sym e, inl u)))
+        | inl f ↦ elim (cases_order k.left h.left) [
+          | inr (inl u) ↦ inl (inr (e, inr (f, inl u)))
+          | inr (inr u) ↦ inr (inr (inr (sym e, inr (sym f, inl u))))
+          | inl g ↦ elim (cases_order k.right h.right) [
+            | inr (inl u) ↦ inl (inr (e, inr (f, inr (g, u))))
+            | inr (inr u) ↦ inr (inr (inr (sym e, inr (sym f, inr (sym g, u)))))
+            | inl q ↦ inr (inl (record { size = e; mark = f; left = g; right = q }))
           ]
         ]
       ]
@@ -114,12 +107,10 @@ module _ (S : List Tree) (rising : Rising S) where
 -- what is less than a tree of the list stands before it; places count from 1
 placed_before : (S : List Tree) → Rising S → (i p : ℕ) (x : Tree) → i < length S → Placed S p x → Less x (at S i) → p ≤ i
 placed_before S rising i p x h a u =
-    elim (numbers_total i a.place) [
-      | inl v ↦ absurd (asymmetric x (at S i) u (subst (Less (at S i)) a.stands (rising i a.place v a.within)))
-      | inr w ↦ elim w [
-        | inl e ↦ absurd (irreflexive x (subst (Less x) (ap (at S) e ∙ a.stands) u))
-        | inr v ↦ omega (arith, a.counted)
-      ]
+    elim (cases_order i a.place) [
+      | inl e ↦ absurd (irreflexive x (subst (Less x) (ap (at S) e ∙ a.stands) u))
+      | inr (inl v) ↦ absurd (asymmetric x (at S i) u (subst (Less (at S i)) a.stands (rising i a.place v a.within)))
+      | inr (inr v) ↦ omega (arith, a.counted)
     ]
 
 pub parts_before : (S : List Tree) → Rising S → (i : ℕ) → i < length S → (a p q : ℕ) (l r : Tree)
@@ -160,12 +151,10 @@ module _ (A : TreeAutomaton) (S : List Tree) (s : Settled A S) where
 
       before : (g : Has A S t) → g.place < i
       before g =
-          elim (numbers_total g.place i) [
-            | inl u ↦ u
-            | inr w ↦ elim w [
-              | inl e ↦ absurd (irreflexive t (subst (Less t) (ap (at S) (sym e) ∙ same g) less))
-              | inr u ↦ absurd (asymmetric t (at S i) less (subst (Less (at S i)) (same g) (s.order i g.place u g.within)))
-            ]
+          elim (cases_order g.place i) [
+            | inl e ↦ absurd (irreflexive t (subst (Less t) (ap (at S) (sym e) ∙ same g) less))
+            | inr (inl u) ↦ u
+            | inr (inr u) ↦ absurd (asymmetric t (at S i) less (subst (Less (at S i)) (same g) (s.order i g.place u g.within)))
           ]
 
   sizes_among : (n i : ℕ) (x : Tree) → i < n → i < length S → at S i ≡ x → size x < 2 ^ suc i

@@ -1,6 +1,6 @@
 -- Trees given by their mark and the places of their parts in a list, and compared by these.
-use Rattle.std.specs.Prelude.{◌≡◌, ℕ, ◌+◌, ◌<◌, ◌⊎◌, List, length}
-use Rattle.model.specs.Trees.{Tree, leaf, node}
+use Rattle.std.specs.Prelude.{◌≡◌, ℕ, ◌+◌, ◌<◌, List, length}
+use Rattle.model.specs.Trees.{Tree, leaf, node, Lex}
 use Rattle.automata.specs.Classes.{at}
 
 -- the size of a tree, its mark, and the places of its parts, counted from 1; those of a leaf are 0
@@ -21,10 +21,6 @@ pub record Placed (S : List Tree) (p : ℕ) (t : Tree) : Type 0 where
 abbrev pub Linked : List Tree → Link → Tree → Type 0
 Linked S k (leaf a) = (k.mark ≡ a) × (k.left ≡ 0) × (k.right ≡ 0)
 Linked S k (node a l r) = (k.mark ≡ a) × Placed S k.left l × Placed S k.right r
-
--- less by P, or equal by E and less by Q
-abbrev pub Lex : Type 0 → Type 0 → Type 0 → Type 0
-Lex P E Q = P ⊎ (E × Q)
 
 -- by size, then mark, then place of the left part, then place of the right part
 abbrev pub Precedes : Link → Link → Type 0

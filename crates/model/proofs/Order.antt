@@ -2,16 +2,12 @@
 -- lexicographic comparison of size, mark, left part and right part.
 use Rattle.std.proofs.Common.{◌≡◌, ℕ, ◌+◌, ◌<◌, ◌≤◌, ◌⊎◌, sym, refl, ap, ◌∙◌, subst, inl, inr, arith}
 use native.Mathlib.Decide.{dec_lt}
-use Rattle.model.specs.Trees.{Tree, leaf, node, size, mark, Less, by_size, by_mark, by_left, by_right}
+use Rattle.model.specs.Trees.{Tree, leaf, node, size, mark, Less, Lex, by_size, by_mark, by_left, by_right}
 use Rattle.model.specs.Laws.{StrictTotalOrder, TreeOrder}
 
 pub size_positive : (x : Tree) → 0 < size x
 size_positive (leaf a) = omega arith
 size_positive (node a l r) = omega arith
-
--- lexicographic comparison: less by P, or equal by E and less by Q
-abbrev Lex : Type 0 → Type 0 → Type 0 → Type 0
-Lex P E Q = P ⊎ (E × Q)
 
 abbrev Before : Tree → Tree → Type 0
 Before (leaf a) (leaf b) = a < b

@@ -1,5 +1,5 @@
 -- Binary trees with marks, and the order in which they are compared.
-use Rattle.std.specs.Prelude.{◌≡◌, ℕ, ◌+◌, ◌<◌}
+use Rattle.std.specs.Prelude.{◌≡◌, ℕ, ◌+◌, ◌<◌, ◌⊎◌}
 
 -- a leaf with a mark, or a node with a mark, a left and a right part
 pub data Tree : Type 0 where
@@ -26,3 +26,7 @@ pub data Less : Tree → Tree → Type 0 where
   by_mark : {x y : Tree} → size x ≡ size y → mark x < mark y → Less x y
   by_left : {a : ℕ} {l r k s : Tree} → size (node a l r) ≡ size (node a k s) → Less l k → Less (node a l r) (node a k s)
   by_right : {a : ℕ} {l r s : Tree} → size (node a l r) ≡ size (node a l s) → Less r s → Less (node a l r) (node a l s)
+
+-- less by P, or equal by E and less by Q: a lexicographic comparison
+abbrev pub Lex : Type 0 → Type 0 → Type 0 → Type 0
+Lex P E Q = P ⊎ (E × Q)
