@@ -1,6 +1,11 @@
--- How the value of a list of words changes with one word, and how it splits at a place: each by induction on the list,
--- with the weight of a place as a power of 2 ^ 32.
-use Rattle.std.proofs.Common.{◌≡◌, ℕ, zero, suc, ◌+◌, ◌-◌, ◌*◌, ◌^◌, ◌<◌, ◌≤◌, List, [], ◌∷◌, length, get_or, take, drop, set, replicate, sym, refl, ap, ◌∙◌, subst, suc-le-suc, mul-le-mul_left, arith, pow-add}
+-- How the value of a list of words changes with one word, how the words below a place make it up, and how the words from the last one
+-- down order it: each by induction on the list, with the weight of a place as a power of 2 ^ 32.
+use Rattle.std.proofs.Common.{◌≡◌, ℕ, zero, suc, ◌+◌, ◌*◌, ◌^◌, ◌<◌, List, [], ◌∷◌, ◌++◌, length, get_or, take, set, replicate, reverse, sym, refl, ap, ◌∙◌, subst, suc-le-suc, arith, pow-add, Ordering, Less, Equal, Greater}
+use Rattle.std.proofs.lemmas.List.{reverse-append, length-reverse}
+use Rattle.std.proofs.lemmas.Cmp.{ranked}
+use Rattle.std.specs.Ordering.{MatchOrdering, ordering_then, nat_cmp}
+use Rattle.std.specs.Cmp.Lexicographic.{slice_cmp}
+use mathlib.Core.List.{reverse-cons}
 use native.Mathlib.Nat.{pow-succ'}
 use Rattle.numbers.specs.Value.{value, weight}
 
@@ -30,7 +35,7 @@ pub value_small : (xs : List ℕ) (n v : ℕ) → xs ≡ replicate n 0 → 0 < n
 value_small xs zero v e h = absurd (omega arith)
 value_small xs (suc n) v e h = ap (λ (ys : List ℕ). value (set ys 0 v)) e ∙ omega (arith, value_zeros n)
 
--- The words below a place and those from it on.
+-- The words below a place.
 
 value_take : (xs : List ℕ) (i : ℕ) → i < length xs → value (take (suc i) xs) ≡ value (take i xs) + get_or xs i 0 * weight i
 value_take [] i h = elim h [ ]
@@ -41,59 +46,54 @@ value_take (x ∷ xs) (suc i) (suc-le-suc h) =
 pub value_more : (xs : List ℕ) (i : ℕ) → i < length xs → value (take (i + 1) xs) ≡ value (take i xs) + get_or xs i 0 * weight i
 value_more xs i h = let e : i + 1 ≡ suc i = omega arith in ap (λ (n : ℕ). value (take n xs)) e ∙ value_take xs i h
 
-value_drop : (xs : List ℕ) (i : ℕ) → i < length xs → value (drop i xs) ≡ get_or xs i 0 + 2 ^ 32 * value (drop (suc i) xs)
-value_drop [] i h = elim h [ ]
-value_drop (x ∷ xs) zero h = refl
-value_drop (x ∷ xs) (suc i) (suc-le-suc h) = value_drop xs i h
-
--- one place further down
-pub value_from : (xs : List ℕ) (i : ℕ) → 0 < i → i ≤ length xs → value (drop (i - 1) xs) ≡ get_or xs (i - 1) 0 + 2 ^ 32 * value (drop i xs)
-value_from xs i some h =
-    let e : suc (i - 1) ≡ i = omega arith in
-    value_drop xs (i - 1) (omega arith) ∙ ap (λ (n : ℕ). get_or xs (i - 1) 0 + 2 ^ 32 * value (drop n xs)) e
-
-value_split : (xs : List ℕ) (i : ℕ) → i ≤ length xs → value xs ≡ value (take i xs) + weight i * value (drop i xs)
-value_split xs zero h = omega arith
-value_split [] (suc i) h = elim h [ ]
-value_split (x ∷ xs) (suc i) (suc-le-suc h) =
-    rw (pow-succ' (2 ^ 32) i) (omega (arith, ap (λ (n : ℕ). 2 ^ 32 * n) (value_split xs i h)))
-
-abbrev pub Words : List ℕ → Type 0
-Words xs = (k : ℕ) → get_or xs k 0 < 2 ^ 32
-
-value_below : (xs : List ℕ) (i : ℕ) → Words xs → value (take i xs) < weight i
-value_below xs zero f = omega arith
-value_below [] (suc i) f = omega (arith, value_below [] i f, pow-succ' (2 ^ 32) i)
-value_below (x ∷ xs) (suc i) f = omega (arith, f 0, value_below xs i (λ k. f (suc k)), pow-succ' (2 ^ 32) i)
-
 -- A turn of the sum; `w` is the weight of the place.
 
 pub sum_turn : (w d s k low up v v' v₀ t c : ℕ)
     → v' + d * w ≡ v + low * w → v + k * w ≡ v₀ + t + c → d + s + k ≡ up * (2 ^ 32) + low → v' + up * (2 ^ 32 * w) ≡ v₀ + (t + s * w) + c
 sum_turn w d s k low up v v' v₀ t c e f g = omega (arith, ap (λ (n : ℕ). n * w) g)
 
--- A turn of the comparison, from the most significant word down: the words at i and above are equal.
+-- The words from the last one down.
 
-lower_at : (xs ys : List ℕ) (i : ℕ) → i < length xs → i < length ys → Words xs
-    → value (drop (suc i) xs) ≡ value (drop (suc i) ys) → get_or xs i 0 < get_or ys i 0 → value xs < value ys
-lower_at xs ys i hx hy f e l =
-    omega (
-      arith,
-      value_split xs i (omega arith),
-      value_split ys i (omega arith),
-      value_below xs i f,
-      ap (λ (n : ℕ). weight i * n) (value_drop xs i hx),
-      ap (λ (n : ℕ). weight i * n) (value_drop ys i hy),
-      ap (λ (n : ℕ). weight i * n) e,
-      mul-le-mul_left (weight i) l,
-    )
+-- one more word at the low end
+pub value_below : (xs : List ℕ) (x : ℕ) → value (reverse (xs ++ x ∷ [])) ≡ x + 2 ^ 32 * value (reverse xs)
+value_below xs x = ap value (reverse-append xs (x ∷ []))
 
-module _ (xs ys : List ℕ) (i : ℕ) (some : 0 < i) (hx : i ≤ length xs) (hy : i ≤ length ys) (same : value (drop i xs) ≡ value (drop i ys)) where
-  above : value (drop (suc (i - 1)) xs) ≡ value (drop (suc (i - 1)) ys)
-  above = let e : i ≡ suc (i - 1) = omega arith in subst (λ (n : ℕ). value (drop n xs) ≡ value (drop n ys)) e same
+then_equal : (r : Ordering) → ordering_then r Equal ≡ r
+then_equal Less = refl
+then_equal Equal = refl
+then_equal Greater = refl
 
-  pub lower : Words xs → get_or xs (i - 1) 0 < get_or ys (i - 1) 0 → value xs < value ys
-  lower f l = lower_at xs ys (i - 1) (omega arith) (omega arith) f above l
+then_assoc : (r o p : Ordering) → ordering_then r (ordering_then o p) ≡ ordering_then (ordering_then r o) p
+then_assoc Less o p = refl
+then_assoc Equal o p = refl
+then_assoc Greater o p = refl
 
-  pub same_below : get_or xs (i - 1) 0 ≡ get_or ys (i - 1) 0 → value (drop (i - 1) xs) ≡ value (drop (i - 1) ys)
-  same_below l = omega (arith, value_drop xs (i - 1) (omega arith), value_drop ys (i - 1) (omega arith), above)
+cmp_push : (xs ys : List ℕ) (x y : ℕ) → length xs ≡ length ys
+    → slice_cmp nat_cmp (xs ++ x ∷ []) (ys ++ y ∷ []) ≡ ordering_then (slice_cmp nat_cmp xs ys) (nat_cmp x y)
+cmp_push [] [] x y h = then_equal (nat_cmp x y)
+cmp_push [] (v ∷ ys) x y h = absurd (omega arith)
+cmp_push (u ∷ xs) [] x y h = absurd (omega arith)
+cmp_push (u ∷ xs) (v ∷ ys) x y h = ap (ordering_then (nat_cmp u v)) (cmp_push xs ys x y (omega arith)) ∙ then_assoc (nat_cmp u v) _ _
+
+-- the words above decide, and only where they are equal the low word
+low_word : (r o : Ordering) (n m x y : ℕ) → x < 2 ^ 32 → y < 2 ^ 32 → MatchOrdering r (n < m) (n ≡ m) (m < n) → MatchOrdering o (x < y) (x ≡ y) (y < x)
+    → MatchOrdering (ordering_then r o) (x + 2 ^ 32 * n < y + 2 ^ 32 * m) (x + 2 ^ 32 * n ≡ y + 2 ^ 32 * m) (y + 2 ^ 32 * m < x + 2 ^ 32 * n)
+low_word Less o n m x y hx hy high low = omega arith
+low_word Equal Less n m x y hx hy high low = omega arith
+low_word Equal Equal n m x y hx hy high low = omega arith
+low_word Equal Greater n m x y hx hy high low = omega arith
+low_word Greater o n m x y hx hy high low = omega arith
+
+pub compares : (xs ys : List ℕ) → length xs ≡ length ys → ((k : ℕ) → get_or xs k 0 < 2 ^ 32) → ((k : ℕ) → get_or ys k 0 < 2 ^ 32)
+    → MatchOrdering (slice_cmp nat_cmp (reverse xs) (reverse ys)) (value xs < value ys) (value xs ≡ value ys) (value ys < value xs)
+compares [] [] h f g = refl
+compares [] (y ∷ ys) h f g = absurd (omega arith)
+compares (x ∷ xs) [] h f g = absurd (omega arith)
+compares (x ∷ xs) (y ∷ ys) h f g =
+    let e : slice_cmp nat_cmp (reverse (x ∷ xs)) (reverse (y ∷ ys)) ≡ ordering_then (slice_cmp nat_cmp (reverse xs) (reverse ys)) (nat_cmp x y) =
+    ap (λ (zs : List ℕ). slice_cmp nat_cmp zs (reverse (y ∷ ys))) (reverse-cons x xs)
+    ∙ (ap (slice_cmp nat_cmp (reverse xs ++ x ∷ [])) (reverse-cons y ys)
+    ∙ cmp_push (reverse xs) (reverse ys) x y (omega (arith, length-reverse xs, length-reverse ys))) in
+    subst (λ (r : Ordering). MatchOrdering r (value (x ∷ xs) < value (y ∷ ys)) (value (x ∷ xs) ≡ value (y ∷ ys)) (value (y ∷ ys) < value (x ∷ xs))) (sym e)
+    (low_word (slice_cmp nat_cmp (reverse xs) (reverse ys)) (nat_cmp x y) (value xs) (value ys) x y (f 0) (g 0)
+    (compares xs ys (omega arith) (λ k. f (suc k)) (λ k. g (suc k))) (ranked x y (nat_cmp x y) refl))

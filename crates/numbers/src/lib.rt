@@ -15,17 +15,7 @@ pub fn compare(a: &[u32], b: &[u32]) -> Ordering
     requires { length a.now ≡ length b.now }
     ensures { MatchOrdering result (value a.now < value b.now) (value a.now ≡ value b.now) (value b.now < value a.now) }
 {
-    let mut i = a.len();
-    while i > 0 {
-        i -= 1;
-        if a[i] < b[i] {
-            return Ordering::Less;
-        }
-        if a[i] > b[i] {
-            return Ordering::Greater;
-        }
-    }
-    Ordering::Equal
+    a.iter().rev().cmp(b.iter().rev())
 }
 
 // Adds `from` and `carry` to the number in `into`, and returns what no longer fits there, as a multiple of the weight that the next word would have.
@@ -34,6 +24,7 @@ pub fn add(into: &mut [u32], from: &[u32], carry: u32) -> u32
     ensures { value into.new + result * weight (length into.old) ≡ value into.old + value from.now + carry }
 {
     let mut over = carry as u64;
+    // By index, since a proof knows nothing of what a loop over `into.iter_mut().zip(from)` has written (tried).
     for i in 0..from.len() {
         let sum = into[i] as u64 + from[i] as u64 + over;
         into[i] = (sum % RADIX) as u32;
@@ -46,11 +37,10 @@ pub fn add(into: &mut [u32], from: &[u32], carry: u32) -> u32
 pub fn saturated(a: &[u32]) -> u64
     ensures { result ≡ min (value a.now) (2 ^ 64 - 1) }
 {
-    let mut sum: u64 = 0;
-    for i in (0..a.len()).rev() {
-        sum = sum.saturating_mul(RADIX).saturating_add(a[i] as u64);
-    }
-    sum
+    a.iter().rev().fold(
+        0,
+        |high: u64, word| high.saturating_mul(RADIX).saturating_add(u64::from(*word)),
+    )
 }
 
 // Writes the number `small`.

@@ -5,50 +5,52 @@ use native.Mathlib.Decide.{ℕ_discrete, dec_lt}
 use Rattle.std.proofs.lemmas.List.{get_or-set_same, get_or-set_other, length-set}
 use Rattle.table.specs.declared.Table.{Table}
 use Rattle.table.specs.Rows.{row, Written}
-use Rattle.table.specs.Tables.{Room, sig_at}
+use Rattle.table.specs.Tables.{sig_at}
 use Rattle.table.specs.Chains.{mixed, bucket, Chained, Chains}
 
 pub bucket_below : (chains : ℕ) (xs : List ℕ) → 0 < chains → bucket chains xs < chains
 unfolding bucket
 bucket_below chains xs h = mod-lt (mixed 0 xs) h
 
--- Looking for a key: the cursor is in its chain, and a row that has the key is below it.
+-- Looking for a key: the cursor, counted from one, is in its chain, and a row that has the key is below it.
 
 pub record Looking (t : Table) (key : List ℕ) (cursor : ℕ) : Type 0 where
   pub within : cursor ≤ t.count
   pub below : (i : ℕ) → i < t.count → sig_at t i ≡ key → i < cursor
-  pub belongs : 0 < cursor → bucket (length t.heads.now) (sig_at t (cursor - 1)) ≡ bucket (length t.heads.now) key
+  pub belongs : (k : ℕ) → k + 1 ≡ cursor → bucket (length t.heads.now) (sig_at t k) ≡ bucket (length t.heads.now) key
 
-module _ (t : Table) (key : List ℕ) (room : Room t) (chains : Chains t) where
+module _ (t : Table) (key : List ℕ) (chains : Chains t) where
   pub look_start : (c : ℕ) → c ≡ get_or t.heads.now (bucket (length t.heads.now) key) 0 → Looking t key c
   look_start c e = record {
     within = omega (arith, e, chains.head_within b below_all);
     below = λ i h r. omega (arith, e, ap (λ (xs : List ℕ). get_or t.heads.now (bucket (length t.heads.now) xs) 0) r, chains.head_last i h);
-    belongs = λ h. subst (λ (d : ℕ). bucket (length t.heads.now) (sig_at t (d - 1)) ≡ b) (sym e) (chains.head_belongs b below_all (omega (arith, e)));
+    belongs = λ k h. let q : k ≡ get_or t.heads.now b 0 - 1 = omega (arith, e, h) in
+        ap (λ (j : ℕ). bucket (length t.heads.now) (sig_at t j)) q ∙ chains.head_belongs b below_all (omega (arith, e, h));
   }
     where
       b : ℕ
       b = bucket (length t.heads.now) key
 
       below_all : b < length t.heads.now
-      below_all = bucket_below (length t.heads.now) key room.for_heads
+      below_all = bucket_below (length t.heads.now) key t.for_heads
 
-  pub look_turn : (c d : ℕ) → 0 < c → (sig_at t (c - 1) ≡ key → ⊥) → d ≡ get_or t.nexts.now (c - 1) 0 → Looking t key c → Looking t key d
-  look_turn c d h miss e l = record {
-    within = omega (arith, e, chains.next_before (c - 1) lt, lt);
-    below = λ i u r. let v : i < c - 1 = before i u r in omega (arith, e, chains.next_last i (c - 1) v lt (ap (bucket (length t.heads.now)) r ∙ sym (l.belongs h)));
-    belongs = λ u. subst (λ (n : ℕ). bucket (length t.heads.now) (sig_at t (n - 1)) ≡ bucket (length t.heads.now) key) (sym e)
-        (chains.next_belongs (c - 1) lt (omega (arith, e)) ∙ l.belongs h);
+  -- row k, at the cursor c, has another signature, and d is the next
+  pub look_turn : (c k d : ℕ) → k + 1 ≡ c → sig_at t k ≢ key → d ≡ get_or t.nexts.now k 0 → Looking t key c → Looking t key d
+  look_turn c k d h miss e l = record {
+    within = omega (arith, e, chains.next_before k lt, lt);
+    below = λ i u r. let v : i < k = before i u r in omega (arith, e, chains.next_last i k v lt (ap (bucket (length t.heads.now)) r ∙ sym (l.belongs k h)));
+    belongs = λ j u. let q : j ≡ get_or t.nexts.now k 0 - 1 = omega (arith, e, u) in
+        ap (λ (i : ℕ). bucket (length t.heads.now) (sig_at t i)) q ∙ (chains.next_belongs k lt (omega (arith, e, u)) ∙ l.belongs k h);
   }
     where
-      lt : c - 1 < t.count
+      lt : k < t.count
       lt = omega (arith, l.within)
 
-      before : (i : ℕ) → i < t.count → sig_at t i ≡ key → i < c - 1
+      before : (i : ℕ) → i < t.count → sig_at t i ≡ key → i < k
       before i u r =
-          elim (ℕ_discrete i (c - 1)) [
+          elim (ℕ_discrete i k) [
             | yes q ↦ absurd (miss (ap (sig_at t) (sym q) ∙ r))
-            | no q ↦ elim (dec_lt i (c - 1)) [ yes v ↦ v | no v ↦ absurd (q (omega (arith, l.below i u r))) ]
+            | no q ↦ elim (dec_lt i k) [ yes v ↦ v | no v ↦ absurd (q (omega (arith, l.below i u r))) ]
           ]
 
 -- A new row.
@@ -134,15 +136,3 @@ chain_inserted count b w sigs sigs' heads nexts key ch e below free ws =
     (chain_more (length heads) count (λ k. bucket (length heads) (row w k sigs)) (λ k. bucket (length heads) (row w k sigs'))
     heads (set heads b (count + 1)) nexts (set nexts count (get_or heads b 0)) ch b below (omega arith) free
     (λ i h. ap (bucket (length heads)) (ws.others i (λ q. omega arith))) (ap (bucket (length heads)) ws.here ∙ sym e) refl refl)
-
--- No row yet.
-
-pub chain_none : (n : ℕ) (f : ℕ → ℕ) (heads nexts : List ℕ) → ((j : ℕ) → get_or heads j 0 ≡ 0) → Chained n 0 f heads nexts
-chain_none n f heads nexts z = record {
-  head_last = λ k h. absurd (omega arith);
-  head_within = λ j h. omega (arith, z j);
-  head_belongs = λ j h p. absurd (omega (arith, z j));
-  next_last = λ i k u h. absurd (omega arith);
-  next_before = λ k h. absurd (omega arith);
-  next_belongs = λ k h. absurd (omega arith);
-}

@@ -1,9 +1,9 @@
 -- The least of the open rows, kept while rows are passed: a row that comes before the best so far comes before all that the
 -- best comes before, since the comparison by size, mark and places is transitive.
-use Rattle.std.proofs.Common.{◌≡◌, ℕ, ◌+◌, ◌<◌, ◌⊎◌, List, get_or, replicate, IfSome, Some, None, Option, sym, ap, ◌∙◌, subst, inl, inr, arith, MatchOption}
+use Rattle.std.proofs.Common.{◌≡◌, ℕ, ◌+◌, ◌<◌, ◌⊎◌, IfSome, Some, None, Option, sym, ap, ◌∙◌, subst, inl, inr, arith, MatchOption}
 use native.Mathlib.Decide.{dec_lt}
-use Rattle.std.proofs.lemmas.List.{get_or-replicate, get_or_past, length-replicate}
-use Rattle.automata.specs.Links.{Link, Lex, Precedes, Ties}
+use Rattle.model.specs.Trees.{Lex}
+use Rattle.automata.specs.Links.{Link, Precedes, Ties}
 use Rattle.table.specs.declared.Table.{Table}
 use Rattle.table.specs.Tables.{tree_at, rank_at, NotAfter, LeastOpen}
 
@@ -76,9 +76,3 @@ module _ (t : Table) (k : ℕ) where
   pub keep_row : (best now_best : Option ℕ) → Chosen t k best → (0 < rank_at t k) ⊎ MatchOption best ⊥ (λ b. NotAfter (tree_at t b) (tree_at t k))
       → now_best ≡ best → Chosen t (k + 1) now_best
   keep_row best now_best l p e = subst (Chosen t (k + 1)) (sym e) (kept best l p)
-
--- words that were cleared
-pub all_zero : (xs : List ℕ) (n : ℕ) → xs ≡ replicate n 0 → (k : ℕ) → get_or xs k 0 ≡ 0
-all_zero xs n e k =
-    ap (λ (ys : List ℕ). get_or ys k 0) e
-    ∙ elim (dec_lt k n) [ yes u ↦ get_or-replicate n k 0 0 u | no u ↦ get_or_past (replicate n 0) k 0 (omega (arith, length-replicate {A = ℕ} n 0)) ]

@@ -4,8 +4,8 @@ use Rattle.std.proofs.Common.{◌≡◌, ℕ, ◌+◌, ◌-◌, ◌*◌, ◌<◌
 use borrow.Rule.Slice.PartMut.{put_mid}
 use Rattle.std.proofs.lemmas.Nat.{mul-le}
 use Rattle.std.proofs.lemmas.Slice.{between_is, between-put_mid, take-put_mid_below, drop-put_mid}
-use Rattle.automata.proofs.Comparing.{numbers_total}
-use Rattle.table.specs.Rows.{Written, link_of}
+use Rattle.std.proofs.lemmas.Bool.{cases_order}
+use Rattle.table.specs.Rows.{Written}
 
 pub row_fits : (w k most len : ℕ) → k < most → most * w ≤ len → k * w + w ≤ len
 row_fits w k most len h f = omega (arith, mul-le (k + 1) w most w (omega arith) (omega arith))
@@ -17,18 +17,12 @@ pub written : (w k d : ℕ) (from old new : List ℕ) → d ≡ w → length fro
     → Written w k from old (put_mid (k * w) d old new)
 written w k d from old new e l f g = record {
   here = between-put_mid (k * w) d old new (k * w + w) (omega arith) (omega (arith, ap length g)) ∙ g;
-  others = λ j n. elim (numbers_total j k) [
-    | inl u ↦ between_is (put_mid (k * w) d old new) (j * w) (j * w + w)
+  others = λ j n. elim (cases_order j k) [
+    | inl q ↦ absurd (n q)
+    | inr (inl u) ↦ between_is (put_mid (k * w) d old new) (j * w) (j * w + w)
         ∙ (ap (drop (j * w)) (take-put_mid_below (k * w) d old new (j * w + w) (row_before w j k u) (omega arith))
         ∙ sym (between_is old (j * w) (j * w + w)))
-    | inr v ↦ elim v [
-      | inl q ↦ absurd (n q)
-      | inr u ↦ ap (take (j * w + w - j * w))
-          (drop-put_mid (k * w) d old new (j * w) (omega (arith, row_before w k j u)) (omega arith) (omega (arith, ap length g)))
-    ]
+    | inr (inr u) ↦ ap (take (j * w + w - j * w))
+        (drop-put_mid (k * w) d old new (j * w) (omega (arith, row_before w k j u)) (omega arith) (omega (arith, ap length g)))
   ];
 }
-
--- equal words are equal trees
-pub same_tree : {x x' y y' : List ℕ} → x ≡ x' → y ≡ y' → link_of x y ≡ link_of x' y'
-same_tree e f = λ i. link_of (e i) (f i)

@@ -1,5 +1,5 @@
 -- Rows by their signature: a hash, and for each of its values a chain of rows.
-use Rattle.std.specs.Prelude.{◌≡◌, ℕ, ◌+◌, ◌-◌, ◌*◌, ◌%◌, ◌<◌, ◌≤◌, List, [], ◌∷◌, length, ◌≢◌, slice_index}
+use Rattle.std.specs.Prelude.{◌≡◌, ℕ, ◌+◌, ◌-◌, ◌*◌, ◌%◌, ◌<◌, ◌≤◌, List, [], ◌∷◌, length, ◌≢◌, slice_index, Option, MatchOption}
 use Rattle.table.specs.declared.Table.{Table}
 use Rattle.table.specs.Tables.{sig_at}
 
@@ -25,8 +25,15 @@ pub record Chained (chains count : ℕ) (f : ℕ → ℕ) (heads nexts : List �
 abbrev pub Chains : Table → Type 0
 Chains t = Chained (length t.heads.now) t.count (λ k. bucket (length t.heads.now) (sig_at t k)) t.heads.now t.nexts.now
 
--- r is the row with this signature, or the number of rows where none has it
-pub record Located (t : Table) (key : List ℕ) (r : ℕ) : Type 0 where
-  pub within : r ≤ t.count
-  pub found : r < t.count → sig_at t r ≡ key
-  pub lacks : r ≡ t.count → (k : ℕ) → k < t.count → sig_at t k ≢ key
+-- row k has this signature
+pub record Has (t : Table) (key : List ℕ) (k : ℕ) : Type 0 where
+  pub within : k < t.count
+  pub signed : sig_at t k ≡ key
+
+-- no row has this signature
+abbrev pub Lacks : Table → List ℕ → Type 0
+Lacks t key = (k : ℕ) → k < t.count → sig_at t k ≢ key
+
+-- r is the row with this signature, or none where no row has it
+abbrev pub Located : Table → List ℕ → Option ℕ → Type 0
+Located t key r = MatchOption r (Lacks t key) (Has t key)

@@ -33,6 +33,21 @@ pub record Room (t : Table) : Type 0 where
   pub row_bits : t.shape.most < 2 ^ 32
   pub few_rows : t.count ≤ t.shape.most
 
+-- so it is of every table
+pub room_of : (t : Table) → Room t
+room_of t = record {
+  for_sigs = t.for_sigs;
+  for_sizes = t.for_sizes;
+  for_links = t.for_links;
+  for_heads = t.for_heads;
+  for_nexts = t.for_nexts;
+  for_order = t.for_order;
+  for_ranks = t.for_ranks;
+  size_bits = t.size_bits;
+  row_bits = t.row_bits;
+  few_rows = t.few_rows;
+}
+
 -- row k was given this signature and tree; the other rows, and what is settled, are as before
 pub record Put (k : ℕ) (key : List ℕ) (tree : Link) (old new : Table) : Type 0 where
   pub here_sig : sig_at new k ≡ key

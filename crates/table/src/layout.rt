@@ -1,6 +1,5 @@
 // The regions of a table in one lent slice, side by side.
 ghost use Rattle.std.specs.Prelude.{◌≡◌, ◌+◌, ◌*◌, ◌/◌, ◌^◌, ◌<◌, ◌≤◌, length};
-ghost use Rattle.table.specs.Tables.{Room};
 ghost use Rattle.table.specs.Layout.{size_words, words_for};
 
 use crate::links::LINK;
@@ -19,7 +18,6 @@ pub struct Regions<'a> {
 pub fn lay_out<'a>(work: &'a mut [u32], width: usize, most: usize) -> Regions<'a>
     requires most { most < 2 ^ 32 }
     requires work { words_for width most ≤ length work.old }
-    ensures room { Room result.table }
     ensures width { result.table.shape.width ≡ width }
     ensures words { result.table.shape.words ≡ size_words most }
     ensures most { result.table.shape.most ≡ most }

@@ -1,6 +1,5 @@
 // Trees as the table holds them: a size, and a link of three words.
 ghost use Rattle.std.specs.Prelude.{◌≡◌, length};
-ghost use Rattle.table.specs.Rows.{Stands, linkage};
 
 use std::cmp::Ordering;
 
@@ -18,27 +17,30 @@ pub const RIGHT: usize = 2;
 pub struct Candidate<'a> {
     pub size: &'a [u32],
     pub link: &'a [u32],
+    pub ghost link_words: { length link.now ≡ 3 },
 }
 
-// How two trees stand: by size, then mark, then left part, then right part.
-pub fn compare(a: Candidate, b: Candidate) -> Ordering
-    requires sizes { length a.size.now ≡ length b.size.now }
-    requires left { length a.link.now ≡ 3 }
-    requires right { length b.link.now ≡ 3 }
-    ensures { Stands result (linkage a.entry) (linkage b.entry) }
-{
-    'order: loop {
-        match numbers::compare(a.size, b.size) {
-            Ordering::Less => break 'order Ordering::Less,
-            Ordering::Greater => break 'order Ordering::Greater,
-            Ordering::Equal => {}
+impl<'a> Candidate<'a> {
+    ghost use Rattle.table.specs.Rows.{Stands, linkage};
+
+    // How two trees stand: by size, then mark, then left part, then right part.
+    pub fn compare(self, other: Candidate) -> Ordering
+        requires { length self.size.now ≡ length other.size.now }
+        ensures { Stands result (linkage self.entry) (linkage other.entry) }
+    {
+        // yields by break: a form of the code that is asked for (docs/DECISIONS.md, "Forms of the code")
+        'order: loop {
+            let by_size = numbers::compare(self.size, other.size);
+            if by_size.is_ne() {
+                break 'order by_size;
+            }
+            if self.link[MARK] != other.link[MARK] {
+                break 'order self.link[MARK].cmp(&other.link[MARK]);
+            }
+            if self.link[LEFT] != other.link[LEFT] {
+                break 'order self.link[LEFT].cmp(&other.link[LEFT]);
+            }
+            break 'order self.link[RIGHT].cmp(&other.link[RIGHT]);
         }
-        if a.link[MARK] != b.link[MARK] {
-            break 'order a.link[MARK].cmp(&b.link[MARK]);
-        }
-        if a.link[LEFT] != b.link[LEFT] {
-            break 'order a.link[LEFT].cmp(&b.link[LEFT]);
-        }
-        break 'order a.link[RIGHT].cmp(&b.link[RIGHT]);
     }
 }

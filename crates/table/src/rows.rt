@@ -1,5 +1,5 @@
 // Rows of a region: row k is the words from k times the width on.
-ghost use Rattle.std.specs.Prelude.{◌≡◌, ◌*◌, ◌<◌, ◌≤◌, true, false, length, ◌≢◌};
+ghost use Rattle.std.specs.Prelude.{◌≡◌, ◌*◌, ◌<◌, ◌≤◌, length};
 ghost use Rattle.table.specs.Rows.{row, Written};
 
 // Row k of so many rows.
@@ -22,12 +22,4 @@ pub fn write_row(region: &mut [u32], rows: usize, width: usize, k: usize, from: 
 {
     let at = k * width;
     region[at..at + width].copy_from_slice(from);
-}
-
-// Whether two rows have the same words.
-pub fn same(a: &[u32], b: &[u32]) -> bool
-    ensures yes { result ≡ true → a.now ≡ b.now }
-    ensures not { result ≡ false → a.now ≢ b.now }
-{
-    a == b
 }

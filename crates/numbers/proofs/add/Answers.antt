@@ -1,5 +1,4 @@
-use Rattle.std.proofs.Common.{◌≡◌, ℕ, ◌+◌, ◌*◌, ◌/◌, ◌%◌, length, get_or, ap, arith}
-use Rattle.std.proofs.lemmas.List.{take_all}
+use Rattle.std.proofs.Common.{◌+◌, ◌/◌, ◌%◌, get_or, arith}
 use Rattle.numbers.specs.Value.{value, weight}
 use Rattle.numbers.proofs.Words.{weight_more, value_set, value_more, sum_turn}
 use Rattle.numbers.proofs.add.Goals as goal
@@ -19,9 +18,3 @@ loop-i-preserved c =
                 (value_set c.loop-i.into i _ (omega arith)) c.loop-i.invariant.1 (omega arith),
           )),
     )
-
-pub returns : goal.returns
-returns c =
-    let n : c.loop-i.i ≡ length c.args.into.now = omega arith in
-    let t = ap value (take_all c.loop-i.i c.args.from.now (omega arith)) in
-    omega (arith, c.loop-i.invariant.1, t, ap (λ (k : ℕ). c.loop-i.over * weight k) n)

@@ -1,20 +1,19 @@
-use Rattle.std.proofs.Common.{sym, ap, ◌∙◌, arith}
-use Rattle.std.proofs.lemmas.List.{drop_all}
+-- What the words from the last one down tell of the numbers: `cmp` goes down both lists in that order.
+-- The order of the lists is first shown as std's `slice_cmp`, and then as that of the values, by `compares`.
+use Rattle.std.proofs.Common.{◌≡◌, ◌<◌, refl, subst, sym, reverse, Ordering, arith}
+use Rattle.std.specs.Ordering.{nat_cmp, MatchOrdering}
+use Rattle.std.specs.Cmp.Lexicographic.{slice_cmp}
+use Rattle.std.proofs.lemmas.Iterator.Adapters.{YieldsList-from_rev_slice}
+use Rattle.std.proofs.lemmas.Iterator.Search.{cmp_from_yields_List}
 use Rattle.numbers.specs.Value.{value}
-use Rattle.numbers.proofs.Words.{lower, same_below}
+use Rattle.numbers.proofs.Words.{compares}
 use Rattle.numbers.proofs.compare.Goals as goal
 
-pub loop-i-init : goal.loop-i-init
-loop-i-init c =
-    (omega arith, ap value (drop_all _ c.args.a.now (omega arith) ∙ sym (drop_all _ c.args.b.now (omega arith))))
-
-pub returns-then-a-i : goal.returns-then-a-i
-returns-then-a-i c =
-    lower _ _ c.loop-i.i (omega arith) (omega arith) (omega arith) c.loop-i.invariant.1 (λ k. omega (arith, c.type_inv.a k)) c.if-a-i.true
-
-pub returns-then-a-i-2 : goal.returns-then-a-i-2
-returns-then-a-i-2 c =
-    lower _ _ c.loop-i.i (omega arith) (omega arith) (omega arith) (sym c.loop-i.invariant.1) (λ k. omega (arith, c.type_inv.b k)) c.if-a-i-2.true
-
-pub loop-i-preserved : goal.loop-i-preserved
-loop-i-preserved c = (omega arith, same_below _ _ c.loop-i.i (omega arith) (omega arith) (omega arith) c.loop-i.invariant.1 (omega arith))
+pub returns : goal.returns
+returns c =
+    let a = c.args.a.now in
+    let b = c.args.b.now in
+    let by_words : c.cmp.result ≡ slice_cmp nat_cmp (reverse a) (reverse b) =
+    cmp_from_yields_List (λ x y. y ≡ x) _ nat_cmp _ c.cmp.ensures.ran (YieldsList-from_rev_slice a cc) (λ it e. YieldsList-from_rev_slice b cc) (λ x y. refl) in
+    subst (λ (r : Ordering). MatchOrdering r (value a < value b) (value a ≡ value b) (value b < value a)) (sym by_words)
+    (compares a b c.requires (λ k. omega (arith, c.type_inv.a k)) (λ k. omega (arith, c.type_inv.b k)))

@@ -1,12 +1,8 @@
+-- The words written are row k, and rows before and after it lie elsewhere, by `written`.
+-- That the row is within the region the check finds, but `written` wants it as a fact.
 use Rattle.std.proofs.Common.{◌≡◌, arith, rules}
 use Rattle.table.proofs.Spacing.{row_fits, written}
 use Rattle.table.proofs.rows.write_row.Goals as goal
-
-pub offset_bounds-region-at : goal.offset_bounds-region-at
-offset_bounds-region-at c = let fits = row_fits c.args.width c.args.k c.args.rows _ c.requires.row c.requires.room in search rules
-
-pub slice_bounds-copy_from_slice-end : goal.slice_bounds-copy_from_slice-end
-slice_bounds-copy_from_slice-end c = let fits = row_fits c.args.width c.args.k c.args.rows _ c.requires.row c.requires.room in search rules
 
 pub returns : goal.returns
 returns c =

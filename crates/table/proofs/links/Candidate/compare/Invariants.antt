@@ -1,4 +1,4 @@
-use Rattle.table.proofs.links.compare.Given as goal
+use Rattle.table.proofs.links.Candidate.compare.Given as goal
 
 -- the loop runs once
 abbrev pub decreases-order : goal.decreases-order
