@@ -46,10 +46,10 @@ module _ (A : TreeAutomaton) (S : List Tree) (t : Table) (s : State A S t) where
     rank_below = omega (arith, s.ranks)
 
     pub rank_within : r < t.shape.most
-    rank_within = omega (arith, few_settled, s.room.few_rows)
+    rank_within = omega (arith, few_settled, t.few_rows)
 
     pub row_within : ranked_at t r < t.shape.most
-    row_within = omega (arith, (s.row_of r rank_below).within, s.rows, s.room.few_rows)
+    row_within = omega (arith, (s.row_of r rank_below).within, s.rows, t.few_rows)
 
     row_sig : sig_at t (ranked_at t r) ≡ sig A (at S r)
     row_sig = s.signed (ranked_at t r) (s.row_of r rank_below).within ∙ ap (sig A) (s.row_of r rank_below).stands
@@ -84,6 +84,6 @@ module _ (A : TreeAutomaton) (S : List Tree) (t : Table) (s : State A S t) where
 
   pub node_size_fits : (p q : ℕ) → p < t.settled → q < t.settled → size (at S p) + size (at S q) + 1 < weight t.shape.words
   node_size_fits p q hp hq =
-      let le : suc t.shape.most ≤ 32 * t.shape.words = omega (arith, s.room.size_bits) in
+      let le : suc t.shape.most ≤ 32 * t.shape.words = omega (arith, t.size_bits) in
       let w : 2 ^ suc t.shape.most ≤ 2 ^ (32 * t.shape.words) = pow_mono le in
       omega (arith, size_below p hp, size_below q hq, w, weight_is_power t.shape.words)

@@ -9,7 +9,7 @@ use Rattle.automata.specs.Frontier.{Covered, Keeps}
 use Rattle.automata.specs.Links.{Link, Linked}
 use Rattle.automata.proofs.Comparing.{le_le}
 use Rattle.table.specs.declared.Table.{Table}
-use Rattle.table.specs.Tables.{Room, sig_at, tree_at, rank_at, ranked_at, Put}
+use Rattle.table.specs.Tables.{room_of, sig_at, tree_at, rank_at, ranked_at, Put}
 use Rattle.table.specs.Chains.{Chains}
 use Rattle.reach.specs.Searching.{RowOfRank, RankOfRow, State, Describes, Grown}
 use Rattle.reach.proofs.Placing.{put, at_put, at_others, put_longer, put_all}
@@ -52,13 +52,13 @@ module _ (A : TreeAutomaton) (S : List Tree) (old new : Table) (s : State A S ol
       let o = s.rank_of j (omega (arith, rank_same j, h)) in
       record { rank = o.rank; within = o.within; is = order_same o.rank ∙ o.is }
 
-  module _ (rows : length us ≡ new.count) (room : Room new) (chains : Chains new) where
+  module _ (rows : length us ≡ new.count) (chains : Chains new) where
     put_state : State A S new
     put_state = record {
       trees = us;
       rows = rows;
       ranks = s.ranks ∙ sym p.same_settled;
-      room = room;
+      room = room_of new;
       chains = chains;
       settled_trees = s.settled_trees;
       marks = put_all s.trees k x within (λ _ y. Marked A.marks y) (λ i u n. s.marks i u) d.marked;

@@ -12,7 +12,7 @@ use Rattle.automata.proofs.Comparing.{le_le}
 use Rattle.automata.proofs.Pushing.{push, at_before, at_last}
 use Rattle.automata.proofs.Growing.{none_settled, settle, open_below, all_settled}
 use Rattle.table.specs.declared.Table.{Table}
-use Rattle.table.specs.Tables.{Room, tree_at, rank_at, ranked_at, Empty, LeastOpen, Settles}
+use Rattle.table.specs.Tables.{room_of, tree_at, rank_at, ranked_at, Empty, LeastOpen, Settles}
 use Rattle.table.specs.Chains.{Chains}
 use Rattle.reach.specs.Searching.{RowOfRank, RankOfRow, State, Searching, PairsCovered}
 use Rattle.reach.specs.Promise.{AllFound}
@@ -29,12 +29,12 @@ pub record Turn (A : TreeAutomaton) (t : Table) : Type 0 where
 
 -- The start.
 
-pub no_rows : (A : TreeAutomaton) (t : Table) → Empty t → Room t → Chains t → State A [] t
-no_rows A t e room chains = record {
+pub no_rows : (A : TreeAutomaton) (t : Table) → Empty t → Chains t → State A [] t
+no_rows A t e chains = record {
   trees = [];
   rows = sym e.no_row;
   ranks = sym e.none_settled;
-  room = room;
+  room = room_of t;
   chains = chains;
   settled_trees = none_settled A;
   marks = λ i h. absurd (omega arith);
@@ -87,18 +87,18 @@ module _ (A : TreeAutomaton) (old : Table) (u : Turn A old) where
       open_unranked A S old s k z g.place g.within (s.apart (ranked_at old g.place) k r.within h (ap (sig A) r.stands ∙ g.alike))
 
   pub rank_free : (k : ℕ) → LeastOpen old old.count k → old.settled < old.shape.most
-  rank_free k least = omega (arith, one_open A S old s k least.within least.unranked, s.room.few_rows)
+  rank_free k least = omega (arith, one_open A S old s k least.within least.unranked, old.few_rows)
 
   pub finished : ((k : ℕ) → k < old.count → 0 < rank_at old k) → AllFound A old
   finished f = record {
     trees = S;
     classes = all_settled A S s.trees s.settled_trees u.leaves u.nodes (λ k h. ranked_has k h (f k (omega (arith, s.rows))));
     state = s;
-    few = omega (arith, few_settled A S old s, s.room.few_rows);
+    few = omega (arith, few_settled A S old s, old.few_rows);
     all_ranked = f;
   }
 
-  module _ (new : Table) (k : ℕ) (least : LeastOpen old old.count k) (p : Settles k old new) (room : Room new) (chains : Chains new) where
+  module _ (new : Table) (k : ℕ) (least : LeastOpen old old.count k) (p : Settles k old new) (chains : Chains new) where
     k_within : k < length s.trees
     k_within = omega (arith, s.rows, least.within)
 
@@ -119,13 +119,13 @@ module _ (A : TreeAutomaton) (old : Table) (u : Turn A old) where
     fewer = one_open A S old s k least.within least.unranked
 
     rank_here : rank_at new k ≡ old.settled + 1
-    rank_here = ap (λ (xs : List ℕ). get_or xs k 0) p.ranks_are ∙ get_or-set_same _ k (old.settled + 1) 0 (omega (arith, least.within, s.room.few_rows, s.room.for_ranks))
+    rank_here = ap (λ (xs : List ℕ). get_or xs k 0) p.ranks_are ∙ get_or-set_same _ k (old.settled + 1) 0 (omega (arith, least.within, old.few_rows, old.for_ranks))
 
     rank_other : (j : ℕ) → j ≢ k → rank_at new j ≡ rank_at old j
     rank_other j n = ap (λ (xs : List ℕ). get_or xs j 0) p.ranks_are ∙ get_or-set_other _ k j (old.settled + 1) 0 n
 
     row_here : ranked_at new old.settled ≡ k
-    row_here = ap (λ (xs : List ℕ). get_or xs old.settled 0) p.order_is ∙ get_or-set_same _ old.settled k 0 (omega (arith, fewer, s.room.few_rows, s.room.for_order))
+    row_here = ap (λ (xs : List ℕ). get_or xs old.settled 0) p.order_is ∙ get_or-set_same _ old.settled k 0 (omega (arith, fewer, old.few_rows, old.for_order))
 
     row_other : (r : ℕ) → r ≢ old.settled → ranked_at new r ≡ ranked_at old r
     row_other r n = ap (λ (xs : List ℕ). get_or xs r 0) p.order_is ∙ get_or-set_other _ old.settled r k 0 n
@@ -169,7 +169,7 @@ module _ (A : TreeAutomaton) (old : Table) (u : Turn A old) where
       trees = s.trees;
       rows = s.rows ∙ sym p.same_count;
       ranks = omega (arith, length_push S x, s.ranks, p.settled_is);
-      room = room;
+      room = room_of new;
       chains = chains;
       settled_trees = settle A S s.settled_trees x (s.marks k k_within) (open_new k k_within least.unranked) low;
       marks = s.marks;

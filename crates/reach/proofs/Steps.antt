@@ -1,7 +1,6 @@
 -- Offers one after another. What the trees at hand cover they go on covering, so that steps compose and each loop adds to
 -- what was reached; a step that finds one class too many does so for the steps before it.
-use Rattle.std.proofs.Common.{◌≡◌, ℕ, ◌+◌, ◌<◌, Bool, true, false, List, length, sym, refl, ap, ◌∙◌, subst, arith}
-use native.Mathlib.Decide.{dec_lt}
+use Rattle.std.proofs.Common.{◌≡◌, ℕ, ◌+◌, ◌<◌, Result, Ok, Err, IsErrAnd, List, sym, refl, ◌∙◌, subst, arith, below_more}
 use Rattle.model.specs.Trees.{Tree, leaf}
 use Rattle.automata.specs.Automata.{TreeAutomaton, Alphabet}
 use Rattle.automata.specs.Classes.{MoreThan}
@@ -10,26 +9,24 @@ use Rattle.automata.proofs.Growing.{node_by_letters}
 use Rattle.automata.proofs.Counting.{counted}
 use Rattle.table.specs.declared.Shape.{Shape}
 use Rattle.table.specs.declared.Table.{Table}
-use Rattle.reach.specs.Promise.{MoreClasses}
-use Rattle.reach.specs.Searching.{State, Searching, Grown, Kept, Offered, BothWays, PairsCovered, Scratch}
+use Rattle.reach.specs.declared.TooMany.{TooMany}
+use Rattle.reach.specs.declared.offers.Search.{Search}
+use Rattle.reach.specs.Kept.{Kept}
+use Rattle.reach.specs.Promise.{MoreClasses, Finds}
+use Rattle.reach.specs.Searching.{State, Searching, Grown, Offered, BothWays, PairsCovered}
 
--- what holds of each number below n, and of n, holds of each below n + 1
-pub one_more : (P : ℕ → Type 0) (n : ℕ) → ((i : ℕ) → i < n → P i) → P n → (i : ℕ) → i < n + 1 → P i
-one_more P n f p i h = elim (dec_lt i n) [ yes u ↦ f i u | no u ↦ let e : n ≡ i = omega arith in subst P e p ]
+-- what two steps keep, and what is kept where nothing was done
+module _ {X : Type 0} {a : _} where
+  pub kept_then : (old mid new : Search X a) → Kept old mid → Kept mid new → Kept old new
+  kept_then old mid new k l = record {
+    automaton = l.automaton ∙ k.automaton;
+    same_table = l.same_table ∙ k.same_table;
+    shape = l.shape ∙ k.shape;
+    settled = l.settled ∙ k.settled;
+  }
 
-pub kept_then : (old mid new : Table) → Kept old mid → Kept mid new → Kept old new
-kept_then old mid new a b = record { shape = b.shape ∙ a.shape; settled = b.settled ∙ a.settled }
-
-pub kept_none : (t : Table) → Kept t t
-kept_none t = record { shape = refl; settled = refl }
-
-pub scratch_same : (wide : ℕ) (key num key' num' : List ℕ) (old new : Table) → Scratch wide key num old → length key' ≡ length key → length num' ≡ length num
-    → new.shape ≡ old.shape → Scratch wide key' num' new
-scratch_same wide key num key' num' old new s e f k = record {
-  for_key = e ∙ (s.for_key ∙ ap (λ (sh : Shape). sh.width) (sym k));
-  for_size = f ∙ (s.for_size ∙ ap (λ (sh : Shape). sh.words) (sym k));
-  width = s.width ∙ ap (λ (sh : Shape). sh.width) (sym k);
-}
+  pub kept_none : (s : Search X a) → Kept s s
+  kept_none s = record { automaton = refl; same_table = refl; shape = refl; settled = refl }
 
 -- a step that went well, by what then holds of the settled trees and the trees at hand
 abbrev pub Progress : TreeAutomaton → Table → Table → (List Tree → List Tree → Type 0) → Type 0
@@ -37,6 +34,21 @@ Progress A old new P = (S : List Tree) (s : State A S old) → Grown A S old new
 
 abbrev pub Overflow : TreeAutomaton → Table → Type 0
 Overflow A t = (S : List Tree) → State A S t → MoreThan A t.shape.most
+
+-- What is said of the automaton that a later search has is said of the same automaton.
+module _ (A B : TreeAutomaton) (same : B ≡ A) where
+  pub searching_same : (t : Table) → Searching A t → Searching B t
+  searching_same t = subst (λ (C : TreeAutomaton). Searching C t) (sym same)
+
+  pub offered_same : (old new : Table) (P : TreeAutomaton → List Tree → List Tree → Type 0) (r : Result (Unit {0}) TooMany)
+      → Offered B old new (P B) r → Offered A old new (P A) r
+  offered_same old new P r = subst (λ (C : TreeAutomaton). Offered C old new (P C) r) same
+
+  pub progress_same : (old new : Table) (P : TreeAutomaton → List Tree → List Tree → Type 0) → Progress B old new (P B) → Progress A old new (P A)
+  progress_same old new P = subst (λ (C : TreeAutomaton). Progress C old new (P C)) same
+
+  pub overflow_same : (t : Table) → Overflow B t → Overflow A t
+  overflow_same t = subst (λ (C : TreeAutomaton). Overflow C t) same
 
 module _ (A : TreeAutomaton) where
   pub no_step : (t : Table) (P : List Tree → List Tree → Type 0) → ((S us : List Tree) → P S us) → Progress A t t P
@@ -55,8 +67,8 @@ module _ (A : TreeAutomaton) where
   pub goes_on : (old new : Table) (P : List Tree → List Tree → Type 0) → Progress A old new P → Searching A old → Searching A new
   goes_on old new P f s = record { settled_list = s.settled_list; state = (f s.settled_list s.state).state }
 
-  pub overflows : (old mid : Table) (P : List Tree → List Tree → Type 0) → Progress A old mid P → Kept old mid → Overflow A mid → Overflow A old
-  overflows old mid P f k h S s = subst (λ (sh : Shape). MoreThan A sh.most) k.shape (h S (f S s).state)
+  pub overflows : (old mid : Table) (P : List Tree → List Tree → Type 0) → Progress A old mid P → mid.shape ≡ old.shape → Overflow A mid → Overflow A old
+  overflows old mid P f k h S s = subst (λ (sh : Shape). MoreThan A sh.most) k (h S (f S s).state)
 
   -- more classes than the table has rows
   pub overflown : (old : Table) (shape : Shape) → Overflow A old → shape ≡ old.shape → Searching A old → MoreClasses A shape.most
@@ -64,28 +76,38 @@ module _ (A : TreeAutomaton) where
       let more : MoreThan A shape.most = subst (λ (sh : Shape). MoreThan A sh.most) (sym k) (h s.settled_list s.state) in
       record { more = more; longer = λ ts o. counted A shape.most ts more o }
 
+  -- the search then ends with that
+  pub finds_more : (Q : TooMany → Type 0) (t : Table) (r : Result (Unit {0}) TooMany) → IsErrAnd r Q → MoreClasses A t.shape.most → Finds A t r
+  finds_more Q t (Ok _) e m = absurd e
+  finds_more Q t (Err _) e m = m
+
   -- a step whose outcome is handed on
-  pub offered_then : (old mid new : Table) (P Q R : List Tree → List Tree → Type 0) (r : Bool) → Progress A old mid P → Kept old mid → Offered A mid new Q r
+  pub offered_then : (old mid new : Table) (P Q R : List Tree → List Tree → Type 0) (r : Result (Unit {0}) TooMany) → Progress A old mid P → mid.shape ≡ old.shape → Offered A mid new Q r
       → ((S ts us : List Tree) → P S ts → Keeps A ts us → Q S us → R S us) → Offered A old new R r
-  offered_then old mid new P Q R true f k g h = and_then old mid new P Q R f g h
-  offered_then old mid new P Q R false f k g h = overflows old mid P f k g
+  offered_then old mid new P Q R (Ok _) f k g h = and_then old mid new P Q R f g h
+  offered_then old mid new P Q R (Err _) f k g h = overflows old mid P f k g
+
+  -- a step that ends since one did: there are more classes, as that one says
+  pub fails : (Q : TooMany → Type 0) (old new : Table) (P : List Tree → List Tree → Type 0) (r : Result (Unit {0}) TooMany) → IsErrAnd r Q → Overflow A old → Offered A old new P r
+  fails Q old new P (Ok _) e h = absurd e
+  fails Q old new P (Err _) e h = h
 
   both_kept : (S ts us : List Tree) (a k i : ℕ) → Keeps A ts us → BothWays A S ts a k i → BothWays A S us a k i
   both_kept S ts us a k i f b = (f _ b.0, f _ b.1)
 
   pub pairs_more : (S ts us : List Tree) (a k i : ℕ) → ((j : ℕ) → j < i → BothWays A S ts a k j) → Keeps A ts us → BothWays A S us a k i
       → (j : ℕ) → j < i + 1 → BothWays A S us a k j
-  pairs_more S ts us a k i f g b = one_more (λ j. BothWays A S us a k j) i (λ j u. both_kept S ts us a k j g (f j u)) b
+  pairs_more S ts us a k i f g b = below_more (λ j. BothWays A S us a k j) i (λ j u. both_kept S ts us a k j g (f j u)) b
 
   pub letters_more : (S ts us : List Tree) (mark_of : ℕ → ℕ) (k n a : ℕ) → a ≡ mark_of n → ((i j : ℕ) → i < n → j < k + 1 → BothWays A S ts (mark_of i) k j)
       → Keeps A ts us → ((j : ℕ) → j < k + 1 → BothWays A S us a k j) → (i j : ℕ) → i < n + 1 → j < k + 1 → BothWays A S us (mark_of i) k j
   letters_more S ts us mark_of k n a e f g b i j h u =
-      one_more (λ i. BothWays A S us (mark_of i) k j) n (λ i v. both_kept S ts us (mark_of i) k j g (f i j v u)) (subst (λ (m : ℕ). BothWays A S us m k j) e (b j u)) i h
+      below_more (λ i. BothWays A S us (mark_of i) k j) n (λ i v. both_kept S ts us (mark_of i) k j g (f i j v u)) (subst (λ (m : ℕ). BothWays A S us m k j) e (b j u)) i h
 
   pub leaves_more : (ts us : List Tree) (mark_of : ℕ → ℕ) (n a : ℕ) → a ≡ mark_of n → ((i : ℕ) → i < n → Covered A ts (leaf (mark_of i)))
       → Keeps A ts us → Covered A us (leaf a) → (i : ℕ) → i < n + 1 → Covered A us (leaf (mark_of i))
   leaves_more ts us mark_of n a e f g c =
-      one_more (λ i. Covered A us (leaf (mark_of i))) n (λ i v. g _ (f i v)) (subst (λ (m : ℕ). Covered A us (leaf m)) e c)
+      below_more (λ i. Covered A us (leaf (mark_of i))) n (λ i v. g _ (f i v)) (subst (λ (m : ℕ). Covered A us (leaf m)) e c)
 
   pub pairs_covered : (S us : List Tree) (letters : ℕ) (mark_of : ℕ → ℕ) (k n : ℕ) → Alphabet A letters mark_of → letters ≡ n
       → ((i j : ℕ) → i < n → j < k + 1 → BothWays A S us (mark_of i) k j) → PairsCovered A S us k

@@ -1,12 +1,11 @@
 -- What the search answers.
-use Rattle.std.specs.Prelude.{ℕ, ◌<◌, ◌≤◌, List, length}
+use Rattle.std.specs.Prelude.{ℕ, ◌<◌, ◌≤◌, List, length, Result, MatchResult}
 use Rattle.model.specs.Trees.{Tree}
 use Rattle.automata.specs.Automata.{TreeAutomaton}
 use Rattle.automata.specs.Classes.{OneOfEach, Classes, MoreThan}
 use Rattle.table.specs.declared.Table.{Table}
 use Rattle.table.specs.Tables.{rank_at}
-use Rattle.reach.specs.declared.Found.{Found}
-use Rattle.reach.specs.declared.Found.TheVariants.{All, TooMany}
+use Rattle.reach.specs.declared.TooMany.{TooMany}
 use Rattle.reach.specs.Searching.{State}
 
 -- the table holds the least trees of all classes, in order, one row for each, and there are no more than it has rows
@@ -23,6 +22,5 @@ pub record MoreClasses (A : TreeAutomaton) (n : ℕ) : Type 0 where
   pub longer : (ts : List Tree) → OneOfEach A ts → n < length ts
 
 -- all classes, which are no more than the table has rows; or there are more
-abbrev pub Finds : TreeAutomaton → Table → Found → Type 0
-Finds A t All = AllFound A t
-Finds A t TooMany = MoreClasses A t.shape.most
+abbrev pub Finds : TreeAutomaton → Table → Result (Unit {0}) TooMany → Type 0
+Finds A t r = MatchResult r (λ _. AllFound A t) (λ _. MoreClasses A t.shape.most)

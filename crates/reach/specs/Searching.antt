@@ -1,5 +1,5 @@
 -- The table of a search in terms of trees.
-use Rattle.std.specs.Prelude.{◌≡◌, ℕ, ◌+◌, ◌<◌, Bool, List, length, MatchBool}
+use Rattle.std.specs.Prelude.{◌≡◌, ℕ, ◌+◌, ◌<◌, List, length, Result, MatchResult}
 use Rattle.model.specs.Trees.{Tree, node, size, Marked}
 use Rattle.automata.specs.Automata.{TreeAutomaton, sig}
 use Rattle.automata.specs.Classes.{at, AllMarked, Apart, MoreThan}
@@ -8,6 +8,7 @@ use Rattle.automata.specs.Links.{Link, Linked}
 use Rattle.table.specs.declared.Table.{Table}
 use Rattle.table.specs.Tables.{Room, sig_at, tree_at, rank_at, ranked_at}
 use Rattle.table.specs.Chains.{Chains}
+use Rattle.reach.specs.declared.TooMany.{TooMany}
 
 -- the settled tree of rank r is that of its row, which knows its rank
 pub record RowOfRank (S ts : List Tree) (t : Table) (r : ℕ) : Type 0 where
@@ -43,11 +44,6 @@ pub record Searching (A : TreeAutomaton) (t : Table) : Type 0 where
   pub settled_list : List Tree
   pub state : State A settled_list t
 
--- what does not change while trees are offered
-pub record Kept (old new : Table) : Type 0 where
-  pub shape : new.shape ≡ old.shape
-  pub settled : new.settled ≡ old.settled
-
 -- the trees at hand still cover what they covered, and now P holds of them
 pub record Grown (A : TreeAutomaton) (S : List Tree) (old new : Table) (s : State A S old) (P : List Tree → Type 0) : Type 0 where
   pub state : State A S new
@@ -55,8 +51,8 @@ pub record Grown (A : TreeAutomaton) (S : List Tree) (old new : Table) (s : Stat
   pub brings : P state.trees
 
 -- a step that offers trees: P holds of the settled trees and the trees at hand then; or there are more classes than rows
-abbrev pub Offered : TreeAutomaton → Table → Table → (List Tree → List Tree → Type 0) → Bool → Type 0
-Offered A old new P r = (S : List Tree) (s : State A S old) → MatchBool r (Grown A S old new s (P S)) (MoreThan A old.shape.most)
+abbrev pub Offered : TreeAutomaton → Table → Table → (List Tree → List Tree → Type 0) → Result (Unit {0}) TooMany → Type 0
+Offered A old new P r = (S : List Tree) (s : State A S old) → MatchResult r (λ _. Grown A S old new s (P S)) (λ _. MoreThan A old.shape.most)
 
 -- the tree x by its signature and its link into S
 pub record Describes (A : TreeAutomaton) (S : List Tree) (key : List ℕ) (link : Link) (x : Tree) : Type 0 where
@@ -66,10 +62,10 @@ pub record Describes (A : TreeAutomaton) (S : List Tree) (key : List ℕ) (link 
   pub linked : Linked S link x
 
 -- whatever tree it is that has this signature and link, it is covered then
-abbrev pub TakenUp : List ℕ → Link → Table → Table → Bool → Type 0
+abbrev pub TakenUp : List ℕ → Link → Table → Table → Result (Unit {0}) TooMany → Type 0
 TakenUp key link old new r =
     (A : TreeAutomaton) (S : List Tree) (s : State A S old) (x : Tree) → Describes A S key link x
-    → MatchBool r (Grown A S old new s (λ us. Covered A us x)) (MoreThan A old.shape.most)
+    → MatchResult r (λ _. Grown A S old new s (λ us. Covered A us x)) (λ _. MoreThan A old.shape.most)
 
 -- nodes with the mark a over the settled trees of ranks k and i, both ways
 abbrev pub BothWays : TreeAutomaton → List Tree → List Tree → ℕ → ℕ → ℕ → Type 0

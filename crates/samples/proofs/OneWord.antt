@@ -1,13 +1,8 @@
--- Signatures of one word: one store writes such a signature, and where some tree has a signature it is one word long, since
--- that of each leaf and node is.
-use Rattle.std.proofs.Common.{◌≡◌, ℕ, List, [], ◌∷◌, length, set, ap, ◌∙◌, arith}
+-- Signatures of one word: where those of leaves and nodes are one word long, so is each that some tree has. From this the samples
+-- may read the first word of a part's signature.
+use Rattle.std.proofs.Common.{◌≡◌, ℕ, List, length, ap, ◌∙◌}
 use Rattle.model.specs.Trees.{Tree, leaf, node}
 use Rattle.automata.specs.Automata.{TreeAutomaton, sig, Reached}
-
-pub set_one : (xs : List ℕ) (x y : ℕ) → length xs ≡ 1 → x ≡ y → set xs 0 x ≡ y ∷ []
-set_one [] x y h e = absurd (omega arith)
-set_one (z ∷ []) x y h e = ap (λ (n : ℕ). n ∷ []) e
-set_one (z ∷ (w ∷ ys)) x y h e = absurd (omega arith)
 
 pub one_word : (A : TreeAutomaton) → ((a : ℕ) → length (A.on_leaf a) ≡ 1) → ((a : ℕ) (s t : List ℕ) → length (A.on_node a s t) ≡ 1)
     → (xs : List ℕ) → Reached A xs → length xs ≡ 1

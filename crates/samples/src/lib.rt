@@ -3,10 +3,10 @@
 
 ghost use Rattle.std.specs.Prelude.{◌≡◌, ℕ, ◌+◌, ◌*◌, ◌<◌, ◌≤◌};
 ghost use Rattle.automata.specs.Automata.{Alphabet};
-ghost use Rattle.table.specs.Tables.{Room, ranked_at};
+ghost use Rattle.table.specs.Tables.{ranked_at};
 ghost use Rattle.samples.specs.Meanings.{sums, tower_of_leaf, tower_of_node, towers, pair_of_node, pairs};
 
-use reach::{Automaton, Found};
+use reach::Automaton;
 use table::{LINK, Regions, Table, lay_out};
 
 // The sum of all marks and `base` for each leaf, by a modulus.
@@ -23,11 +23,7 @@ impl Automaton for Sums {
 
     ghost wide = { λ s. 1 };
 
-    ghost ready = { λ _. Unit {0} };
-
     ghost alphabet = { λ s. s.marks };
-
-    ghost markof = { λ s i. i };
 
     fn letters(&self) -> u32 {
         self.marks
@@ -58,11 +54,7 @@ impl Automaton for Towers {
 
     ghost wide = { λ s. 1 };
 
-    ghost ready = { λ _. Unit {0} };
-
     ghost alphabet = { λ s. 2 };
-
-    ghost markof = { λ s i. i };
 
     fn letters(&self) -> u32 {
         2
@@ -114,11 +106,7 @@ impl Automaton for Pairs {
 
     ghost wide = { λ s. 1 };
 
-    ghost ready = { λ _. Unit {0} };
-
     ghost alphabet = { λ s. 2 };
-
-    ghost markof = { λ s i. i };
 
     fn letters(&self) -> u32 {
         2
@@ -150,33 +138,29 @@ fn pair_node(mark: u32, l: u32, r: u32) -> u32
 
 // Writes a row for each rank, as many as `out` has room for: the signature, the link, the size.
 fn write_out(table: &Table, out: &mut [u32])
-    requires room { Room table.now }
     requires width { table.now.shape.width ≡ 1 }
     requires words { table.now.shape.words < 1000 }
     requires ranks { table.now.settled ≤ table.now.shape.most }
     requires rows { (r : ℕ) → r < table.now.settled → ranked_at table.now r < table.now.shape.most }
 {
-    let words = table.shape.words;
-    let mut at = 0;
+    let mut rows = out.chunks_exact_mut(1 + LINK + table.shape.words);
     for r in 0..table.settled {
-        if out.len() - at < 1 + LINK + words {
+        let Some(row) = rows.next() else {
             return;
-        }
+        };
         let k = table.ranked(r);
         let tree = table.tree(k);
-        out[at] = table.signature(k)[0];
-        at += 1;
-        out[at..at + LINK].copy_from_slice(tree.link);
-        at += LINK;
-        out[at..at + words].copy_from_slice(tree.size);
-        at += words;
+        let (signature, rest) = row.split_at_mut(1);
+        let (link, size) = rest.split_at_mut(LINK);
+        signature.copy_from_slice(table.signature(k));
+        link.copy_from_slice(tree.link);
+        size.copy_from_slice(tree.size);
     }
 }
 
 // Searches in `work`, and writes a row for each class into `out`, in order: signature, mark, the places of the parts counted
 // from one, and the words of the size. How many classes; none where there are more than `most`, or too few words.
 pub fn report<A: Automaton>(a: &A, most: usize, work: &mut [u32], out: &mut [u32]) -> Option<usize>
-    requires ready { A.ready a.now }
     requires width { A.wide a.now ≡ 1 }
     requires alphabet { Alphabet (A.meaning a.now) (A.alphabet a.now) (A.markof a.now) }
 {
@@ -189,13 +173,9 @@ pub fn report<A: Automaton>(a: &A, most: usize, work: &mut [u32], out: &mut [u32
         size,
         rest: _,
     } = lay_out(work, 1, most);
-    match reach::search(a, &mut table, key, size) {
-        Found::TooMany => None,
-        Found::All => {
-            write_out(&table, out);
-            Some(table.settled)
-        }
-    }
+    reach::search(a, &mut table, key, size).ok()?;
+    write_out(&table, out);
+    Some(table.settled)
 }
 
 #[cfg(test)]
@@ -248,22 +228,15 @@ mod tests {
         let mut work = [0; 128];
         let mut out = [0; 55];
         assert_eq!(rt; report(&Pairs {}, 11, &mut work, &mut out), Some(11));
-        let leaves = [0, 0, 0, 0, 1, 1, 1, 0, 0, 1];
-        for i in 0..10 {
-            assert_eq!(rt; out[i], leaves[i]);
-        }
+        assert_eq!(rt; &out[..10], [0, 0, 0, 0, 1, 1, 1, 0, 0, 1].as_slice());
         for n in 0..8 {
-            let at = 10 + 5 * n;
-            assert_eq!(rt; out[at] as usize, n + 2);
-            assert_eq!(rt; out[at + 1] as usize, n / 4);
-            assert_eq!(rt; out[at + 2] as usize, n / 2 % 2 + 1);
-            assert_eq!(rt; out[at + 3] as usize, n % 2 + 1);
-            assert_eq!(rt; out[at + 4], 3);
+            let at = 10 + 5 * n as usize;
+            assert_eq!(rt;
+                &out[at..at + 5],
+                [n + 2, n / 4, n / 2 % 2 + 1, n % 2 + 1, 3].as_slice()
+            );
         }
-        assert_eq!(rt;
-            [out[50], out[51], out[52], out[53], out[54]],
-            [10, 0, 1, 3, 5]
-        );
+        assert_eq!(rt; &out[50..], [10, 0, 1, 3, 5].as_slice());
     }
 
     // With 210 heights there are 421 classes. The full tree of height h, from 2 on, has rank 2 h + 1 and size 2^(h + 1) - 1; the
@@ -275,53 +248,22 @@ mod tests {
         let mut out = [0; 7578];
         assert_eq!(rt; report(&a, 420, &mut work, &mut out), None);
         assert_eq!(rt; report(&a, 421, &mut work, &mut out), Some(421));
+        let row = |r: usize| &out[18 * r..18 * r + 18];
         // height 63: all ones in two words; then 2^64 + 1
-        let full = 127 * 18;
-        assert_eq!(rt;
-            [out[full], out[full + 1], out[full + 2], out[full + 3]],
-            [63, 0, 126, 126]
-        );
-        assert_eq!(rt;
-            [out[full + 4], out[full + 5], out[full + 6]],
-            [0xFFFF_FFFF, 0xFFFF_FFFF, 0]
-        );
-        assert_eq!(rt;
-            [
-                out[full + 18],
-                out[full + 19],
-                out[full + 20],
-                out[full + 21],
-            ],
-            [273, 1, 128, 1]
-        );
-        assert_eq!(rt; [out[full + 22], out[full + 23], out[full + 24]], [1, 0, 1]);
+        let ones = 0xFFFF_FFFF;
+        assert_eq!(rt; &row(127)[..7], [63, 0, 126, 126, ones, ones, 0].as_slice());
+        assert_eq!(rt; &row(128)[..7], [273, 1, 128, 1, 1, 0, 1].as_slice());
         // height 203: 2^204 - 1 and 2^204 + 1
-        let full = 407 * 18;
         assert_eq!(rt;
-            [out[full], out[full + 1], out[full + 2], out[full + 3]],
-            [203, 0, 406, 406]
-        );
-        assert_eq!(rt;
-            [out[full + 4], out[full + 9], out[full + 10], out[full + 11]],
-            [0xFFFF_FFFF, 0xFFFF_FFFF, 0xFFF, 0]
-        );
-        assert_eq!(rt;
+            &row(407)[..12],
             [
-                out[full + 18],
-                out[full + 19],
-                out[full + 20],
-                out[full + 21],
-            ],
-            [413, 1, 408, 1]
+                203, 0, 406, 406, ones, ones, ones, ones, ones, ones, 0xFFF, 0
+            ]
+            .as_slice()
         );
         assert_eq!(rt;
-            [
-                out[full + 22],
-                out[full + 23],
-                out[full + 27],
-                out[full + 28],
-            ],
-            [1, 0, 0, 0x1000]
+            &row(408)[..11],
+            [413, 1, 408, 1, 1, 0, 0, 0, 0, 0, 0x1000].as_slice()
         );
     }
 }

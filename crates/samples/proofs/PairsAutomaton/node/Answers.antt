@@ -1,6 +1,6 @@
 use Rattle.std.proofs.Common.{refl, arith}
 use Rattle.samples.specs.Meanings.{pairs}
-use Rattle.samples.proofs.OneWord.{set_one, one_word}
+use Rattle.samples.proofs.OneWord.{one_word}
 use Rattle.samples.proofs.PairsAutomaton.node.Goals as goal
 
 pub bounds-left-0 : goal.bounds-left-0
@@ -8,6 +8,3 @@ bounds-left-0 c = omega (arith, one_word pairs (λ a. refl) (λ a s t. refl) _ c
 
 pub bounds-right-0 : goal.bounds-right-0
 bounds-right-0 c = omega (arith, one_word pairs (λ a. refl) (λ a s t. refl) _ c.requires.right)
-
-pub returns : goal.returns
-returns c = set_one c.args.out.now _ _ c.requires.out c.pair_node.ensures

@@ -1,6 +1,0 @@
-use Rattle.std.proofs.Common.{refl}
-use Rattle.samples.proofs.OneWord.{set_one}
-use Rattle.samples.proofs.SumsAutomaton.leaf.Goals as goal
-
-pub returns : goal.returns
-returns c = set_one c.args.out.now _ _ c.requires.out refl
