@@ -7,3 +7,4 @@ pub mod PatternLists
 pub mod TurnReads
 pub mod JobReads
 pub mod SubtreeReads
+pub mod Known

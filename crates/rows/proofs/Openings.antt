@@ -1,5 +1,7 @@
 -- How a pattern's row begins: its first word is 0, 1 or 2, and says how many more there are. By cases on the pattern.
-use Rattle.std.proofs.Common.{◌≡◌, ℕ, ◌+◌, ◌<◌, ◌≤◌, List, ◌∷◌, ◌++◌, length, get_or, drop, refl, arith}
+use Rattle.std.proofs.Common.{◌≡◌, ℕ, ◌+◌, ◌-◌, ◌<◌, ◌≤◌, List, ◌∷◌, ◌++◌, length, get_or, drop, refl, ◌∙◌, arith, length-drop}
+use Rattle.std.specs.List.{slice_range}
+use Rattle.std.proofs.lemmas.List.{take_all}
 use Rattle.model.specs.Turns.{Side, left, right, Pattern, p_leaf, p_node, p_part}
 use Rattle.model.specs.Rows.{side_word, pattern_row}
 use Rattle.rows.proofs.Stood.{uncons}
@@ -29,3 +31,7 @@ opening s at (p_part q d) rest e =
     let v = uncons s (at + 1) (at + 2) q (side_word d ∷ rest) (omega arith) u.rest in
     let w = uncons s (at + 2) (at + 3) (side_word d) rest (omega arith) v.rest in
     record { two = v.within; first = omega arith; three = λ h. w.within; part = λ h. omega (arith, side_small d) }
+
+-- the same of the words from the place on, cut off from those before
+pub opening_rest : (s t : List ℕ) (at : ℕ) (p : Pattern) (rest : List ℕ) → t ≡ slice_range s at (length s) → drop at s ≡ pattern_row p ++ rest → Opening t 0
+opening_rest s t at p rest same e = opening t 0 p rest (same ∙ take_all (length s - at) (drop at s) (omega (arith, length-drop at s)) ∙ e)

@@ -1,8 +1,9 @@
 -- Where a pattern ends, from its first step and the ends of its parts; and that none stands there, from what is amiss.
 -- A pattern that stands at a place begins with the step that stands there, so it is of that sort.
-use Rattle.std.proofs.Common.{◌≡◌, ℕ, ◌+◌, ◌-◌, ◌<◌, ◌≤◌, max, true, false, ◌⊎◌, List, [], ◌∷◌, ◌++◌, drop, Some, sym, ◌∙◌, subst, inl, inr, append_assoc, arith}
+use Rattle.std.proofs.Common.{◌≡◌, ℕ, ◌+◌, ◌-◌, ◌<◌, ◌≤◌, max, Bool, true, false, ◌&&◌, ltb, ◌⊎◌, List, [], ◌∷◌, ◌++◌, drop, Some, None, Option, sym, ◌∙◌, subst, inl, inr, append_assoc, arith}
 use mathlib.Core.List.{tail-eq_of_cons-eq}
-use Rattle.std.proofs.lemmas.Bool.{true≢false}
+use Rattle.std.specs.Bool.{then_some}
+use Rattle.std.proofs.lemmas.Bool.{true≢false, ltb-true, ltb-false, and_parts, and_cases}
 use Rattle.model.specs.Turns.{Pattern, p_leaf, p_node, p_part, depth}
 use Rattle.model.specs.Rows.{side_word, pattern_row}
 use Rattle.model.proofs.Prefix.{patterns_apart, side_words}
@@ -49,23 +50,34 @@ module _ (s : List ℕ) (at deep : ℕ) (b : Bounds) where
   pub none_deep : deep ≡ 0 → Absent pattern_row (PatternOk deep b) s at
   none_deep z p rest ok e = omega (arith, depth_positive p, ok.shallow)
 
-  pub some_leaf : (a : ℕ) → StepAt s at (Some (Leaf a)) → 1 ≤ deep → a < b.marks → Ends pattern_row (PatternOk deep b) s at (Some (at + 2))
+  some_leaf : (a : ℕ) → StepAt s at (Some (Leaf a)) → 1 ≤ deep → a < b.marks → Ends pattern_row (PatternOk deep b) s at (Some (at + 2))
   some_leaf a st d h = (p_leaf a, record { well_formed = h; shallow = d }, st)
 
-  pub none_leaf : (a : ℕ) → StepAt s at (Some (Leaf a)) → b.marks ≤ a → Absent pattern_row (PatternOk deep b) s at
+  none_leaf : (a : ℕ) → StepAt s at (Some (Leaf a)) → b.marks ≤ a → Absent pattern_row (PatternOk deep b) s at
   none_leaf a st h p rest ok e =
       let ok' = subst (PatternOk deep b) (tells s at (Leaf a) p rest st e).0 ok in omega (arith, ok'.well_formed)
 
-  pub some_made : (q : ℕ) (d : Part) → StepAt s at (Some (Made q d)) → 1 ≤ deep → b.parts ≡ true → q < b.states → Ends pattern_row (PatternOk deep b) s at (Some (at + 3))
+  -- a leaf is a pattern exactly if its mark is one
+  pub leaf_ends : (v : Bool) (a : ℕ) → StepAt s at (Some (Leaf a)) → 1 ≤ deep → v ≡ ltb a b.marks → Ends pattern_row (PatternOk deep b) s at (then_some v (at + 2))
+  leaf_ends true a st d e = some_leaf a st d (ltb-true a b.marks (sym e))
+  leaf_ends false a st d e = none_leaf a st (ltb-false a b.marks (sym e))
+
+  some_made : (q : ℕ) (d : Part) → StepAt s at (Some (Made q d)) → 1 ≤ deep → b.parts ≡ true → q < b.states → Ends pattern_row (PatternOk deep b) s at (Some (at + 3))
   some_made q d st f p h = (p_part q (side_of d), record { well_formed = (h, p); shallow = f }, st)
 
-  pub none_made : (q : ℕ) (d : Part) → StepAt s at (Some (Made q d)) → (b.parts ≡ false) ⊎ (b.states ≤ q) → Absent pattern_row (PatternOk deep b) s at
+  none_made : (q : ℕ) (d : Part) → StepAt s at (Some (Made q d)) → (b.parts ≡ false) ⊎ (b.states ≤ q) → Absent pattern_row (PatternOk deep b) s at
   none_made q d st h p rest ok e =
       let ok' = subst (PatternOk deep b) (tells s at (Made q d) p rest st e).0 ok in
       elim h [
         | inl n ↦ true≢false (sym ok'.well_formed.1 ∙ n)
         | inr n ↦ omega (arith, ok'.well_formed.0)
       ]
+
+  -- what a state makes of a part is a pattern exactly if there are parts, and the state is one
+  pub made_ends : (v : Bool) (q : ℕ) (d : Part) → StepAt s at (Some (Made q d)) → 1 ≤ deep → v ≡ (b.parts && ltb q b.states) → Ends pattern_row (PatternOk deep b) s at (then_some v (at + 3))
+  made_ends true q d st f e = let p = and_parts b.parts (ltb q b.states) (sym e) in some_made q d st f p.0 (ltb-true q b.states p.1)
+  made_ends false q d st f e =
+      none_made q d st (elim (and_cases b.parts (ltb q b.states) (sym e)) [ inl n ↦ inl n | inr n ↦ inr (ltb-false q b.states n) ])
 
   module _ (a : ℕ) (st : StepAt s at (Some (Node a))) where
     -- the patterns of a node that stands at the place
@@ -101,13 +113,13 @@ module _ (s : List ℕ) (at deep : ℕ) (b : Bounds) where
     none_first absent p rest ok e = let i = inner p rest ok e in absent i.first (pattern_row i.second ++ rest) i.first_ok i.words
 
     module _ (mid : ℕ) (r : Ends pattern_row (PatternOk (deep - 1) b) s (at + 2) (Some mid)) where
-      pub none_second : Absent pattern_row (PatternOk (deep - 1) b) s mid → Absent pattern_row (PatternOk deep b) s at
+      none_second : Absent pattern_row (PatternOk (deep - 1) b) s mid → Absent pattern_row (PatternOk deep b) s at
       none_second absent p rest ok e =
           let i = inner p rest ok e in
           let same = patterns_apart r.0 i.first (drop mid s) (pattern_row i.second ++ rest) (sym r.2.words ∙ i.words) in
           absent i.second rest i.second_ok same.1
 
-      pub some_node : (end : ℕ) → 1 ≤ deep → a < b.marks → Ends pattern_row (PatternOk (deep - 1) b) s mid (Some end) → Ends pattern_row (PatternOk deep b) s at (Some end)
+      some_node : (end : ℕ) → 1 ≤ deep → a < b.marks → Ends pattern_row (PatternOk (deep - 1) b) s mid (Some end) → Ends pattern_row (PatternOk deep b) s at (Some end)
       some_node end d h q =
           let x = r.0 in
           let y = q.0 in
@@ -117,3 +129,8 @@ module _ (s : List ℕ) (at deep : ℕ) (b : Bounds) where
             record { well_formed = (h, r.1.well_formed, q.1.well_formed); shallow = omega arith },
             both s (1 ∷ a ∷ []) (pattern_row x ++ pattern_row y) at (at + 2) end st (both s (pattern_row x) (pattern_row y) (at + 2) mid end r.2 q.2),
           )
+
+      -- a node is a pattern exactly if two stand behind it
+      pub node_ends : (end : Option ℕ) → 1 ≤ deep → a < b.marks → Ends pattern_row (PatternOk (deep - 1) b) s mid end → Ends pattern_row (PatternOk deep b) s at end
+      node_ends None d h q = none_second q
+      node_ends (Some end) d h q = some_node end d h q

@@ -1,10 +1,12 @@
 -- Tables at a place: the words there are a table exactly if there are enough of them and each is below the bound.
 -- A table that is found is a slice of the list.
-use Rattle.std.proofs.Common.{◌≡◌, ℕ, suc, ◌+◌, ◌-◌, ◌*◌, ◌<◌, ◌≤◌, Bool, true, false, ◌||◌, eqb, List, ◌∷◌, ◌++◌, length, get_or, take, drop, Some, sym, refl, ap, ◌∙◌, subst, mul_assoc, mul_comm, add-one, arith, length-append, length-drop, take-append-drop, length-take}
-use Rattle.std.proofs.lemmas.List.{get_or-drop, get_or-take, get_or_append_left, drop-drop, drop_more, take_at}
-use Rattle.std.proofs.ByRecursion.{All-get_or, All-from_get_or}
+use Rattle.std.proofs.Common.{◌≡◌, ℕ, ◌+◌, ◌-◌, ◌*◌, ◌<◌, ◌≤◌, Bool, true, false, ◌||◌, eqb, ltb, List, [], ◌∷◌, ◌++◌, length, get_or, take, drop, Some, sym, refl, ap, ◌∙◌, subst, inl, inr, mul_assoc, mul_comm, arith, length-append, length-drop, take-append-drop, length-take}
+use Rattle.std.specs.List.{list_all, list_any, slice_range}
+use Rattle.std.specs.Bool.{then_some}
+use Rattle.std.proofs.lemmas.List.{get_or-drop, get_or-take, drop-drop, take_all, take_at}
+use Rattle.std.proofs.ByRecursion.{All-get_or}
 use Rattle.std.proofs.lemmas.Nat.{mul-add-lt}
-use Rattle.std.proofs.lemmas.Bool.{or_left, eq-eqb, ne_eqb}
+use Rattle.std.proofs.lemmas.Bool.{true≢false, cases_eq, eq-eqb, ne_eqb, lt-ltb, ltb-true, and_from, and_parts}
 use Rattle.model.specs.Types.{Below, contains}
 use Rattle.model.proofs.Prefix.{split}
 use Rattle.rows.specs.Standing.{Stands, slice, Absent, Ends}
@@ -24,33 +26,46 @@ slice_stands s at n h = record {
   within = h;
 }
 
+-- words that stand at a place are the slice there
+pub stands_slice : (s xs : List ℕ) (at end : ℕ) → Stands s at end xs → slice at (length xs) s ≡ xs
+stands_slice s xs at end st = ap (take (length xs)) st.words ∙ take_at xs (drop end s) (length xs) refl
+
+-- the test of a table's words passes exactly if each is below the bound
+below_passes : (bound : ℕ) (xs : List ℕ) → Below bound xs → list_all (λ x. ltb x bound) xs ≡ true
+below_passes bound [] b = refl
+below_passes bound (x ∷ xs) b = and_from _ _ (lt-ltb x bound b.0) (below_passes bound xs b.1)
+
+passes_below : (bound : ℕ) (xs : List ℕ) → list_all (λ x. ltb x bound) xs ≡ true → Below bound xs
+passes_below bound [] e = tt
+passes_below bound (x ∷ xs) e =
+    let p = and_parts (ltb x bound) (list_all (λ y. ltb y bound) xs) e in (ltb-true x bound p.0, passes_below bound xs p.1)
+
 module _ (s : List ℕ) (at count bound : ℕ) where
   pub none_long : length s - at < count → Absent (λ xs. xs) (Table count bound) s at
   none_long h xs rest ok e = omega (arith, ok.long, length-drop at s, ap length e, length-append xs rest)
 
-  pub none_below : (i : ℕ) → at ≤ i → i < at + count → bound ≤ get_or s i 0 → Absent (λ xs. xs) (Table count bound) s at
-  none_below i l h n xs rest ok e =
-      let in_table : i - at < length xs = omega (arith, ok.long) in
-      let same : get_or s (at + (i - at)) 0 ≡ get_or xs (i - at) 0 = sym (get_or-drop at s (i - at) 0) ∙ ap (λ (t : List ℕ). get_or t (i - at) 0) e ∙ get_or_append_left xs rest 0 (i - at) in_table in
-      let place : at + (i - at) ≡ i = omega arith in
-      let here : get_or s i 0 ≡ get_or xs (i - at) 0 = ap (λ (k : ℕ). get_or s k 0) (sym place) ∙ same in
-      omega (arith, All-get_or (λ x. x < bound) xs (i - at) 0 in_table ok.below)
+  pub none_below : list_all (λ x. ltb x bound) (slice at count s) ≡ false → Absent (λ xs. xs) (Table count bound) s at
+  none_below n xs rest ok e =
+      let same : slice at count s ≡ xs = ap (take count) e ∙ take_at xs rest count ok.long in
+      true≢false (sym (below_passes bound xs ok.below) ∙ sym (ap (list_all (λ x. ltb x bound)) same) ∙ n)
 
-  pub some_table : at + count ≤ length s → ((k : ℕ) → at ≤ k → k < at + count → get_or s k 0 < bound) → Ends (λ xs. xs) (Table count bound) s at (Some (at + count))
-  some_table h f = (
+  pub some_table : at + count ≤ length s → list_all (λ x. ltb x bound) (slice at count s) ≡ true → Ends (λ xs. xs) (Table count bound) s at (Some (at + count))
+  some_table h e = (
     slice at count s,
-    record {
-      long = slice_length s at count h;
-      below = All-from_get_or (λ x. x < bound) (slice at count s) 0 (λ i l.
-          let i_lt : i < count = omega (arith, slice_length s at count h) in
-          omega (arith, slice_at s at count i i_lt, f (at + i) (omega arith) (omega arith)));
-    },
+    record { long = slice_length s at count h; below = passes_below bound (slice at count s) e },
     slice_stands s at count h,
   )
 
--- words that stand at a place are the slice there
-pub stands_slice : (s xs : List ℕ) (at end : ℕ) → Stands s at end xs → slice at (length xs) s ≡ xs
-stands_slice s xs at end st = ap (take (length xs)) st.words ∙ take_at xs (drop end s) (length xs) refl
+  -- what a reader answers by that test
+  pub ends_by : (b : Bool) → at + count ≤ length s → b ≡ list_all (λ x. ltb x bound) (slice at count s) → Ends (λ xs. xs) (Table count bound) s at (then_some b (at + count))
+  ends_by true h e = some_table h (sym e)
+  ends_by false h e = none_below (sym e)
+
+-- a table cut out of what follows a place
+pub cut_out : (s t : List ℕ) (at count : ℕ) → t ≡ slice_range (take (length s - at) (drop at s)) 0 count → t ≡ slice at count s
+cut_out s t at count e =
+    e ∙ ap (λ (xs : List ℕ). take (count - 0) xs) (take_all (length s - at) (drop at s) (omega (arith, length-drop at s)))
+    ∙ ap (λ (n : ℕ). take n (drop at s)) {x = count - 0} (omega arith)
 
 -- a table that was found
 pub record TableAt (s : List ℕ) (at end count bound : ℕ) : Type 0 where
@@ -70,10 +85,6 @@ pub table_front : (s : List ℕ) (at end count bound : ℕ) (xs rest : List ℕ)
     → drop at s ≡ xs ++ rest → drop end s ≡ rest
 table_front s at end count bound xs rest r ok e = (split r.0 xs (drop end s) rest (r.1.long ∙ sym ok.long) (sym r.2.words ∙ e)).1
 
--- one word of a slice
-pub slice_more : (s : List ℕ) (i n : ℕ) → i < length s → slice i (n + 1) s ≡ get_or s i 0 ∷ slice (i + 1) n s
-slice_more s i n h = ap (λ (k : ℕ). slice i k s) (add-one n) ∙ ap (take (suc n)) (drop_more s i 0 h)
-
 -- a word of a slice is below what bounds them all
 pub slice_below : (s : List ℕ) (at n i k : ℕ) → at + n ≤ length s → i < n → Below k (slice at n s) → get_or s (at + i) 0 < k
 slice_below s at n i k h l b =
@@ -88,18 +99,10 @@ place_below a l r k m p q w =
     let same : k * (k * m) ≡ m * (k * k) = sym (mul_assoc k k m) ∙ mul_comm (k * k) m in
     omega arith
 
--- looking for a number in what is left of a slice, from i up to e
-module _ (s : List ℕ) (i e n : ℕ) where
-  contains_cons : i < e → e ≤ length s → contains (slice i (e - i) s) n ≡ (eqb n (get_or s i 0) || contains (slice (i + 1) (e - (i + 1)) s) n)
-  contains_cons h l =
-      let d : e - i ≡ e - (i + 1) + 1 = omega arith in
-      ap (λ (k : ℕ). contains (slice i k s) n) d ∙ ap (λ (xs : List ℕ). contains xs n) (slice_more s i (e - (i + 1)) (omega arith))
-
-  pub contains_here : i < e → e ≤ length s → get_or s i 0 ≡ n → contains (slice i (e - i) s) n ≡ true
-  contains_here h l w = contains_cons h l ∙ or_left (eqb n (get_or s i 0)) _ (eq-eqb n (get_or s i 0) (sym w))
-
-  pub contains_more : i < e → e ≤ length s → (get_or s i 0 ≡ n → ⊥) → contains (slice i (e - i) s) n ≡ contains (slice (i + 1) (e - (i + 1)) s) n
-  contains_more h l w = contains_cons h l ∙ ap (λ (b : Bool). b || contains (slice (i + 1) (e - (i + 1)) s) n) (ne_eqb n (get_or s i 0) (λ q. w (sym q)))
-
-  pub contains_none : e ≤ i → contains (slice i (e - i) s) n ≡ false
-  contains_none h = let d : e - i ≡ 0 = omega arith in ap (λ (k : ℕ). contains (slice i k s) n) d
+-- looking for a number, in either order of the test
+pub contains_by : (n : ℕ) (xs : List ℕ) → list_any (λ y. eqb y n) xs ≡ contains xs n
+contains_by n [] = refl
+contains_by n (x ∷ xs) = ap (λ (b : Bool). b || list_any (λ y. eqb y n) xs) (turned x) ∙ ap (λ (b : Bool). eqb n x || b) (contains_by n xs)
+  where
+    turned : (x : ℕ) → eqb x n ≡ eqb n x
+    turned x = elim (cases_eq x n) [ inl e ↦ eq-eqb x n e ∙ sym (eq-eqb n x (sym e)) | inr e ↦ ne_eqb x n e ∙ sym (ne_eqb n x (λ q. e (sym q))) ]

@@ -19,7 +19,7 @@ all_both P Q R f [] p q = tt
 all_both P Q R f (x ∷ xs) p q = (f x p.0 q.0, all_both P Q R f xs p.1 q.1)
 
 -- a pattern has at least two words
-pattern_long : (p : Pattern) → 2 ≤ length (pattern_row p)
+pub pattern_long : (p : Pattern) → 2 ≤ length (pattern_row p)
 pattern_long (p_leaf a) = omega arith
 pattern_long (p_node a x y) = omega arith
 pattern_long (p_part q d) = omega arith

@@ -1,7 +1,7 @@
 -- Turns and jobs by the places of their parts.
 use Rattle.std.specs.Prelude.{◌≡◌, ℕ, ◌+◌, ◌*◌, ◌<◌, ◌≤◌, List, length, Some, None, Ok, Err, Option, Result, slice_index_or}
 use Rattle.std.specs.List.{AllByRecursion}
-use Rattle.model.specs.Turns.{Pattern, p_leaf, Turn, WellFormedTurn}
+use Rattle.model.specs.Turns.{Pattern, p_leaf, pattern_place, Turn, WellFormedTurn}
 use Rattle.model.specs.Jobs.{Job, Shallow}
 use Rattle.model.specs.Rows.{pattern_row, patterns_row, turn_row, Rows}
 use Rattle.rows.specs.declared.patterns.Bounds.{Bounds}
@@ -9,6 +9,8 @@ use Rattle.rows.specs.declared.jobs.TurnPlaces.{TurnPlaces}
 use Rattle.rows.specs.declared.jobs.JobPlaces.{JobPlaces}
 use Rattle.rows.specs.declared.jobs.JobRefusal.{JobRefusal}
 use Rattle.rows.specs.declared.jobs.JobRefusal.TheVariants.{NoJob, NoRoom}
+use Rattle.rows.specs.declared.trees.Item.{Item}
+use Rattle.rows.specs.declared.trees.Item.TheVariants.{Leaf, Node}
 use Rattle.rows.specs.Numbered.{number}
 use Rattle.rows.specs.Standing.{Stands, Absent}
 use Rattle.rows.specs.Stepwise.{PatternOk}
@@ -84,3 +86,12 @@ abbrev pub JobRead : List ℕ → List ℕ → Result JobPlaces JobRefusal → T
 JobRead s index (Ok p) = (length s ≤ length index) × JobKnown s index p
 JobRead s index (Err NoJob) = (length s ≤ length index) × ((j : Job) → Rows s j → ⊥)
 JobRead s index (Err NoRoom) = length index < length s
+
+abbrev pub item_mark : Item → ℕ
+item_mark (Leaf a) = a
+item_mark (Node a) = a
+
+-- the number in the index of the pattern for a state and a leaf or a node
+abbrev pub item_place : JobPlaces → Item → ℕ → ℕ
+item_place p (Leaf a) q = pattern_place p.marks q a
+item_place p (Node a) q = p.turn.states * p.marks + pattern_place p.marks q a

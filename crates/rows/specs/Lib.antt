@@ -5,3 +5,4 @@ pub mod Stepwise
 pub mod Tables
 pub mod Jobs
 pub mod Subtrees
+pub mod Known

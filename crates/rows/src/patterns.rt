@@ -12,7 +12,7 @@ use crate::steps::{Step, step_at};
 pub const MOST_DEEP: u32 = 64;
 
 // What a pattern may use: marks and states below these numbers, and parts or none.
-#[derive(Clone, Copy)]
+#[derive(Clone, Copy, Debug, PartialEq, Eq)]
 pub struct Bounds {
     pub marks: u32,
     pub states: u32,
@@ -26,29 +26,15 @@ pub fn pattern_end(words: &[u32], at: usize, deep: u32, b: Bounds) -> Option<usi
     if deep == 0 {
         return None;
     }
-    let Some(step) = step_at(words, at) else {
-        return None;
-    };
-    match step {
-        Step::Leaf(a) => { if a < b.marks { Some(at + 2) } else { None } }
-        Step::Made(q, _part) => {
-            if b.parts && q < b.states {
-                Some(at + 3)
-            } else {
-                None
-            }
-        }
+    match step_at(words, at)? {
+        Step::Leaf(a) => (a < b.marks).then_some(at + 2),
+        Step::Made(q, _part) => (b.parts && q < b.states).then_some(at + 3),
         Step::Node(a) => {
             if a >= b.marks {
                 return None;
             }
-            let Some(mid) = pattern_end(words, at + 2, deep - 1, b) else {
-                return None;
-            };
-            let Some(end) = pattern_end(words, mid, deep - 1, b) else {
-                return None;
-            };
-            Some(end)
+            let mid = pattern_end(words, at + 2, deep - 1, b)?;
+            pattern_end(words, mid, deep - 1, b)
         }
     }
 }
@@ -67,10 +53,9 @@ pub fn read_patterns(
     ensures { PatternsRead words.now index.old index.new at first count b result }
 {
     let mut here = at;
+    // i numbers what is noted in the index; where the next pattern begins is known only once this one is read
     for i in 0..count {
-        let Some(end) = pattern_end(words, here, MOST_DEEP, b) else {
-            return None;
-        };
+        let end = pattern_end(words, here, MOST_DEEP, b)?;
         set_number(index, first + i, here);
         here = end;
     }

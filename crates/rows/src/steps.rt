@@ -2,7 +2,7 @@
 ghost use Rattle.rows.specs.Stepwise.{StepAt};
 
 // A part of a node.
-#[derive(Clone, Copy)]
+#[derive(Clone, Copy, Debug, PartialEq, Eq)]
 pub enum Part {
     Left,
     Right,
@@ -10,7 +10,7 @@ pub enum Part {
 
 // What a pattern's row begins with: a leaf by its mark, a node by its mark, whose two patterns follow,
 // or what a state makes of a part.
-#[derive(Clone, Copy)]
+#[derive(Clone, Copy, Debug, PartialEq, Eq)]
 pub enum Step {
     Leaf(u32),
     Node(u32),
@@ -21,23 +21,11 @@ pub enum Step {
 pub fn step_at(words: &[u32], at: usize) -> Option<Step>
     ensures { StepAt words.now at result }
 {
-    if at >= words.len() || words.len() - at < 2 {
-        return None;
-    }
-    let second = words[at + 1];
-    match words[at] {
-        0 => Some(Step::Leaf(second)),
-        1 => Some(Step::Node(second)),
-        2 => {
-            if words.len() - at < 3 {
-                return None;
-            }
-            match words[at + 2] {
-                0 => Some(Step::Made(second, Part::Left)),
-                1 => Some(Step::Made(second, Part::Right)),
-                _ => None,
-            }
-        }
+    match words.get(at..)? {
+        [0, mark, ..] => Some(Step::Leaf(*mark)),
+        [1, mark, ..] => Some(Step::Node(*mark)),
+        [2, state, 0, ..] => Some(Step::Made(*state, Part::Left)),
+        [2, state, 1, ..] => Some(Step::Made(*state, Part::Right)),
         _ => None,
     }
 }

@@ -1,14 +1,15 @@
 // The tables of a type.
-ghost use Rattle.std.specs.Prelude.{◌≡◌, ◌-◌, ◌*◌, ◌<◌, ◌≤◌, length};
+ghost use Rattle.std.specs.Prelude.{◌≡◌, ◌-◌, ◌*◌, ◌<◌, ◌≤◌, length, nat_lt};
+ghost use Rattle.std.specs.List.{list_all};
 ghost use Rattle.model.specs.Types.{contains, kind_of_leaf, kind_of_node, node_place};
 ghost use Rattle.rows.specs.Standing.{Ends, slice};
-ghost use Rattle.rows.specs.Tables.{Table, TypeKnown, TypeRead, type_in};
+ghost use Rattle.rows.specs.Tables.{Table, TypeKnown, TypeRead};
 
 // How many kinds a type may have.
 pub const MOST_KINDS: u32 = 64;
 
 // Where the tables of a type stand.
-#[derive(Clone, Copy)]
+#[derive(Clone, Copy, Debug, PartialEq, Eq)]
 pub struct TypePlaces {
     pub kinds: u32,
     pub leaves: usize,
@@ -18,21 +19,20 @@ pub struct TypePlaces {
     pub end: usize,
 }
 
+// Whether all these words are below a bound.
+fn are_below(words: &[u32], bound: u32) -> bool
+    ensures { result ≡ list_all (λ x. nat_lt x bound) words.now }
+{
+    words.iter().all(|word| *word < bound)
+}
+
 // Where a table of so many words ends, all of them below a bound, if one stands at this place.
 fn table_end(words: &[u32], at: usize, count: usize, bound: u32) -> Option<usize>
     requires { at ≤ length words.now }
     ensures { Ends (λ xs. xs) (Table count bound) words.now at result }
 {
-    if words.len() - at < count {
-        return None;
-    }
-    let end = at + count;
-    for i in at..end {
-        if words[i] >= bound {
-            return None;
-        }
-    }
-    Some(end)
+    let table = words[at..].get(..count)?;
+    are_below(table, bound).then_some(at + count)
 }
 
 // The type whose row begins at a place, if one does.
@@ -40,29 +40,17 @@ pub fn read_type(words: &[u32], at: usize, marks: u32) -> Option<TypePlaces>
     requires { marks ≤ 64 }
     ensures { TypeRead words.now at marks result }
 {
-    if at >= words.len() {
-        return None;
-    }
-    let kinds = words[at];
+    let kinds = *words.get(at)?;
     if kinds == 0 || kinds > MOST_KINDS {
         return None;
     }
     let m = marks as usize;
     let k = kinds as usize;
     let leaves = at + 1;
-    let Some(nodes) = table_end(words, leaves, m, kinds) else {
-        return None;
-    };
-    let Some(count) = table_end(words, nodes, m * (k * k), kinds) else {
-        return None;
-    };
-    if count >= words.len() {
-        return None;
-    }
+    let nodes = table_end(words, leaves, m, kinds)?;
+    let count = table_end(words, nodes, m * (k * k), kinds)?;
     let wanted = count + 1;
-    let Some(end) = table_end(words, wanted, words[count] as usize, kinds) else {
-        return None;
-    };
+    let end = table_end(words, wanted, *words.get(count)? as usize, kinds)?;
     Some(TypePlaces {
         kinds,
         leaves,
@@ -73,53 +61,64 @@ pub fn read_type(words: &[u32], at: usize, marks: u32) -> Option<TypePlaces>
 }
 
 impl TypePlaces {
-    // The place of a node's kind in the table for nodes. All look-ups go through here.
-    fn place(self, marks: u32, mark: u32, left: u32, right: u32) -> usize
-        requires few_marks { marks ≤ 64 }
-        requires few_kinds { self.kinds ≤ 64 }
-        requires mark { mark < marks }
-        requires left { left < self.kinds }
-        requires right { right < self.kinds }
-        ensures value { result ≡ node_place self.kinds mark left right }
-        ensures below { result < marks * (self.kinds * self.kinds) }
-    {
-        let k = self.kinds as usize;
-        (mark as usize * k + left as usize) * k + right as usize
-    }
-
-    // The kind of a leaf.
-    pub fn leaf_kind(self, words: &[u32], marks: u32, mark: u32) -> u32
-        requires known { TypeKnown words.now marks self }
-        requires mark { mark < marks }
-        ensures value { result ≡ kind_of_leaf (type_in words.now marks self) mark }
-        ensures below { result < self.kinds }
-    {
-        words[self.leaves + mark as usize]
-    }
-
-    // The kind of a node, by the kinds of its parts.
-    pub fn node_kind(self, words: &[u32], marks: u32, mark: u32, left: u32, right: u32) -> u32
-        requires known { TypeKnown words.now marks self }
-        requires mark { mark < marks }
-        requires left { left < self.kinds }
-        requires right { right < self.kinds }
-        ensures value { result ≡ kind_of_node (type_in words.now marks self) mark left right }
-        ensures below { result < self.kinds }
-    {
-        words[self.nodes + self.place(marks, mark, left, right)]
-    }
-
     // Whether a kind is wanted.
     pub fn wants(self, words: &[u32], kind: u32) -> bool
         requires before { self.wanted ≤ self.end }
         requires within { self.end ≤ length words.now }
         ensures { result ≡ contains (slice self.wanted (self.end - self.wanted) words.now) kind }
     {
-        for i in self.wanted..self.end {
-            if words[i] == kind {
-                return true;
-            }
-        }
-        false
+        words[self.wanted..self.end].contains(&kind)
+    }
+}
+
+// A type that was read: the words that its tables stand in, for so many marks.
+#[derive(Clone, Copy)]
+pub struct KnownType<'a> {
+    pub words: &'a [u32],
+    pub marks: u32,
+    pub places: TypePlaces,
+    pub ghost known: { ∥ TypeKnown words.now marks places ∥₁ },
+}
+
+impl<'a> KnownType<'a> {
+    ghost use Rattle.rows.specs.Known.{type_of};
+
+    // The place of a node's kind in the table for nodes. All look-ups go through here.
+    fn place(self, mark: u32, left: u32, right: u32) -> usize
+        requires mark { mark < self.marks }
+        requires left { left < self.places.kinds }
+        requires right { right < self.places.kinds }
+        ensures value { result ≡ node_place self.entry.places.kinds mark left right }
+        ensures below { result < self.entry.marks * (self.entry.places.kinds * self.entry.places.kinds) }
+    {
+        let k = self.places.kinds as usize;
+        (mark as usize * k + left as usize) * k + right as usize
+    }
+
+    // The kind of a leaf.
+    pub fn leaf_kind(self, mark: u32) -> u32
+        requires { mark < self.marks }
+        ensures value { result ≡ kind_of_leaf (type_of self.entry) mark }
+        ensures below { result < self.entry.places.kinds }
+    {
+        self.words[self.places.leaves + mark as usize]
+    }
+
+    // The kind of a node, by the kinds of its parts.
+    pub fn node_kind(self, mark: u32, left: u32, right: u32) -> u32
+        requires mark { mark < self.marks }
+        requires left { left < self.places.kinds }
+        requires right { right < self.places.kinds }
+        ensures value { result ≡ kind_of_node (type_of self.entry) mark left right }
+        ensures below { result < self.entry.places.kinds }
+    {
+        self.words[self.places.nodes + self.place(mark, left, right)]
+    }
+
+    // Whether a kind is wanted.
+    pub fn wants(self, kind: u32) -> bool
+        ensures { result ≡ contains (type_of self.entry).wanted kind }
+    {
+        self.places.wants(self.words, kind)
     }
 }

@@ -1,24 +1,24 @@
 // A tree in lent words, known by where each of its subtrees ends and of which kind it is.
 ghost use Rattle.std.specs.Prelude.{◌≡◌, ◌+◌, ◌*◌, ◌<◌, ◌≤◌, length};
 ghost use Rattle.rows.specs.Subtrees.{ItemAt, SubtreeRead, Subtrees, TreeRead, item_row};
-ghost use Rattle.rows.specs.Tables.{TypeKnown, type_in};
+ghost use Rattle.rows.specs.Known.{type_of};
 
 use crate::numbered::{number_at, set_number};
-use crate::tables::TypePlaces;
+use crate::tables::KnownType;
 
 // What two words of a tree's row are: a leaf, or a node whose parts follow, by its mark.
-#[derive(Clone, Copy)]
+#[derive(Clone, Copy, Debug, PartialEq, Eq)]
 pub enum Item {
     Leaf(u32),
     Node(u32),
 }
 
-impl Item {
-    // The two words of the item.
-    pub fn words(self) -> [u32; 2]
-        ensures { result ≡ item_row self }
-    {
-        match self {
+// The two words of the item.
+impl From<Item> for [u32; 2] {
+    ghost from_gives = { λ item words. words ≡ item_row item };
+
+    fn from(item: Item) -> [u32; 2] {
+        match item {
             Item::Leaf(a) => [0, a],
             Item::Node(a) => [1, a],
         }
@@ -26,13 +26,14 @@ impl Item {
 }
 
 // A subtree: the number of the leaf or node that follows it, and its kind.
-#[derive(Clone, Copy)]
+#[derive(Clone, Copy, Debug, PartialEq, Eq)]
 pub struct Subtree {
     pub end: usize,
     pub kind: u32,
 }
 
-// The i-th leaf or node of a tree's row, if these words are one.
+// The i-th leaf or node of a tree's row, if these words are one. (No `TryFrom<[u32; 2]>`: its error would say nothing, and
+// each caller has the words in a slice.)
 pub fn item_at(tree: &[u32], i: usize) -> Option<Item>
     requires { 2 * i + 1 < length tree.now }
     ensures { ItemAt tree.now i result }
@@ -47,72 +48,57 @@ pub fn item_at(tree: &[u32], i: usize) -> Option<Item>
 
 // The subtree that begins with the i-th of `count` leaves and nodes, where those behind it are known.
 fn subtree_at(
-    words: &[u32],
-    t: TypePlaces,
-    marks: u32,
+    t: KnownType,
     tree: &[u32],
     count: usize,
     i: usize,
     ends: &[u32],
     kinds: &[u32],
 ) -> Option<Subtree>
-    requires known { TypeKnown words.now marks t }
     requires whole { length tree.now ≡ 2 * count }
     requires here { i < count }
     requires ends_room { 2 * count ≤ length ends.now }
     requires kinds_room { count ≤ length kinds.now }
-    requires behind { Subtrees (type_in words.now marks t) marks tree.now ends.now kinds.now (i + 1) }
-    ensures { SubtreeRead (type_in words.now marks t) marks tree.now i result }
+    requires behind { Subtrees (type_of t) t.marks tree.now ends.now kinds.now (i + 1) }
+    ensures { SubtreeRead (type_of t.entry) t.entry.marks tree.now i result }
 {
-    let Some(item) = item_at(tree, i) else {
-        return None;
-    };
-    match item {
+    match item_at(tree, i)? {
         Item::Leaf(a) => {
-            if a >= marks {
+            if a >= t.marks {
                 return None;
             }
-            let kind = t.leaf_kind(words, marks, a);
+            let kind = t.leaf_kind(a);
             Some(Subtree { end: i + 1, kind })
         }
         Item::Node(a) => {
-            if a >= marks || i + 1 >= count {
+            if a >= t.marks || i + 1 >= count {
                 return None;
             }
             let right = number_at(ends, i + 1);
             if right >= count {
                 return None;
             }
-            let kind = t.node_kind(words, marks, a, kinds[i + 1], kinds[right]);
+            let kind = t.node_kind(a, kinds[i + 1], kinds[right]);
             let end = number_at(ends, right);
             Some(Subtree { end, kind })
         }
     }
 }
 
-// Reads a tree from the last leaf to the first node: its kind in a type, exactly if the words are a tree with marks
-// below `marks`. Notes where each subtree ends, two words each, and its kind.
-pub fn read_tree(
-    words: &[u32],
-    t: TypePlaces,
-    marks: u32,
-    tree: &[u32],
-    ends: &mut [u32],
-    kinds: &mut [u32],
-) -> Option<u32>
-    requires known { TypeKnown words.now marks t }
+// Reads a tree from the last leaf to the first node: its kind in a type, exactly if the words are a tree with the type's
+// marks. Notes where each subtree ends, two words each, and its kind.
+pub fn read_tree(t: KnownType, tree: &[u32], ends: &mut [u32], kinds: &mut [u32]) -> Option<u32>
     requires ends_room { length tree.now ≤ length ends.old }
     requires kinds_room { length tree.now ≤ 2 * length kinds.old }
-    ensures { TreeRead (type_in words.now marks t) marks tree.now ends.new kinds.new result }
+    ensures { TreeRead (type_of t.entry) t.entry.marks tree.now ends.new kinds.new result }
 {
     let count = tree.len() / 2;
     if count == 0 || tree.len() % 2 != 0 {
         return None;
     }
+    // two lent buffers are read behind i and written at i: an iterator over one of them would not be plainer
     for i in (0..count).rev() {
-        let Some(x) = subtree_at(words, t, marks, tree, count, i, ends, kinds) else {
-            return None;
-        };
+        let x = subtree_at(t, tree, count, i, ends, kinds)?;
         set_number(ends, i, x.end);
         kinds[i] = x.kind;
     }

@@ -1,5 +1,5 @@
 -- A job and a tree that were read, and frames: tasks as numbers in lent words.
-use Rattle.std.specs.Prelude.{◌≡◌, ℕ, ◌+◌, ◌-◌, ◌*◌, ◌≤◌, List, [], ◌∷◌, length, ◌≢◌}
+use Rattle.std.specs.Prelude.{◌≡◌, ℕ, ◌-◌, ◌*◌, ◌≤◌, List, [], ◌∷◌, length}
 use Rattle.std.specs.List.{AllByRecursion}
 use Rattle.model.specs.Trees.{Tree, Marked}
 use Rattle.model.specs.Turns.{WellFormedPattern, made}
@@ -7,25 +7,20 @@ use Rattle.model.specs.Rows.{tree_row, patterns_row}
 use Rattle.rows.specs.declared.steps.Part.{Part}
 use Rattle.rows.specs.declared.steps.Part.TheVariants.{Left, Right}
 use Rattle.rows.specs.Standing.{Stands}
-use Rattle.rows.specs.Numbered.{number}
-use Rattle.rows.specs.Tables.{type_in}
-use Rattle.rows.specs.Jobs.{Begins, JobKnown}
-use Rattle.rows.specs.Subtrees.{TreeKnown}
+use Rattle.rows.specs.Jobs.{Begins}
+use Rattle.transduce.specs.Sources.{TreeOfJob}
 use Rattle.transduce.specs.declared.frames.Frame.{Frame}
 use Rattle.transduce.specs.declared.source.Source.{Source}
+use Rattle.transduce.specs.Stacked.{frame_at}
 use Rattle.transduce.specs.Tasks.{has_parts, Task}
 
 -- the job and the tree are known
-pub record SourceKnown (src : Source) : Type 0 where
-  pub job : JobKnown src.job.now src.index.now src.places
-  pub kinds : List ℕ
-  pub kind : ℕ
-  pub tree : TreeKnown (type_in src.job.now src.places.marks src.places.from) src.places.marks src.tree.now src.ends.now kinds kind
-  pub room : length src.tree.now ≤ length src.ends.now
+abbrev pub SourceKnown : Source → Type 0
+SourceKnown src = TreeOfJob src.job src.tree.now src.ends.now
 
 -- what state q makes of a tree
 abbrev pub made_of : (src : Source) → SourceKnown src → Tree → ℕ → Tree
-made_of src k x q = made src.places.marks k.job.turns x q
+made_of src k x q = made src.job.places.marks k.job.turns x q
 
 -- the words of the result
 abbrev pub result_row : (src : Source) → SourceKnown src → List ℕ
@@ -37,22 +32,13 @@ part_tree Right l r = r
 
 -- the frame stands for the task: the number of the subtree, where its patterns stand, and how many
 pub record FrameKnown (src : Source) (k : SourceKnown src) (f : Frame) (x : Task) : Type 0 where
-  pub marked : Marked src.places.marks x.tree
+  pub marked : Marked src.job.places.marks x.tree
   pub subtree : Begins src.tree.now (2 * f.node) (tree_row x.tree)
   pub end : ℕ
-  pub stands : Stands src.job.now f.at end (patterns_row x.patterns)
-  pub well_formed : AllByRecursion (WellFormedPattern src.places.marks src.places.turn.states (has_parts x.tree)) x.patterns
+  pub stands : Stands src.job.words.now f.at end (patterns_row x.patterns)
+  pub well_formed : AllByRecursion (WellFormedPattern src.job.places.marks src.job.places.turn.states (has_parts x.tree)) x.patterns
   pub counted : f.count ≡ length x.patterns
   pub some : 1 ≤ f.count
-
--- the frame with number d, in six words
-abbrev pub frame_at : List ℕ → ℕ → Frame
-frame_at xs d = record { node = number xs (3 * d); at = number xs (3 * d + 1); count = number xs (3 * d + 2) }
-
--- frame d is now f, and the others are as they were
-pub record Saved (old new : List ℕ) (d : ℕ) (f : Frame) : Type 0 where
-  pub here : frame_at new d ≡ f
-  pub others : (k : ℕ) → (k ≢ d) → frame_at new k ≡ frame_at old k
 
 -- the d frames stand for these tasks, the last frame for the first; a frame's number is at most its node's
 abbrev pub Stack : (src : Source) → SourceKnown src → List ℕ → ℕ → List Task → Type 0

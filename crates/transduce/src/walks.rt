@@ -1,149 +1,121 @@
-// The walk over patterns, from position to position: every leaf and node that stands in a pattern is put out, and a
+// The walk over patterns, from frame to frame: every leaf and node that stands in a pattern is put out, and a
 // part is walked where a pattern asks for it.
 ghost use Rattle.std.specs.Prelude.{◌≡◌, ℕ, ◌+◌, ◌*◌, ◌<◌, ◌≤◌, List, ◌++◌, length};
+ghost use Rattle.std.specs.Borrow.{MutBor};
 ghost use Rattle.rows.specs.declared.steps.Step.TheVariants.{Leaf, Made, Node};
 ghost use Rattle.transduce.specs.Framed.{SourceKnown};
 ghost use Rattle.transduce.specs.Walks.{AfterLeaf, AfterNode, Begun, Descended, Pending, Ready, Walked};
 
-use crate::frames::{Frame, load, save};
+use crate::frames::{Frame, Frames};
 use crate::sinks::Sink;
 use crate::source::Source;
 use rows::steps::{Part, Step, step_at};
 use rows::trees::Item;
 
-// A frame, and how many frames wait below it.
-#[derive(Clone, Copy)]
-pub struct Position {
-    pub here: Frame,
-    pub depth: usize,
-}
-
-// The step with which the pattern at this position begins.
-fn step(src: Source, pos: Position, frames: &[u32]) -> Step
-    requires { Ready src frames.now pos }
-    ensures { Begun src.entry pos result }
+// The step with which the pattern of this frame begins. (`Ready` is no invariant of a type: it is of a source, the frames that wait
+// and the frame in hand, of which each step changes one before the others.)
+fn step(src: Source, here: Frame, frames: &Frames) -> Step
+    requires { Ready src frames.now here }
+    ensures { Begun src.entry here result }
 {
-    match step_at(src.job, pos.here.at) {
-        Some(x) => x,
-        None => unreachable(),
-    }
+    step_at(src.job.words, here.at).unwrap()
 }
 
 // Into a part: the frame waits below, unless this was its last pattern.
-fn descend(src: Source, pos: Position, state: u32, part: Part, frames: &mut [u32]) -> Position
-    requires room { 3 * length src.tree.now ≤ length frames.old }
-    requires ready { Ready src frames.old pos }
-    requires begun { Begun src pos (Made state part) }
-    ensures { Descended src.entry frames.old frames.new pos result }
+fn descend(src: Source, here: Frame, state: u32, part: Part, frames: &mut Frames) -> Frame
+    requires room { 3 * length src.tree.now ≤ length frames.old.words.now }
+    requires ready { Ready src frames.old here }
+    requires begun { Begun src here (Made state part) }
+    ensures { Descended src.entry frames.old frames.new here result }
 {
-    let here = pos.here;
-    let child = src.part(here.node, part);
-    let entered = src.enter(child, state);
+    let entered = src.enter(src.part(here.node, part), state);
     if here.count == 1 {
-        return Position {
-            here: entered,
-            depth: pos.depth,
-        };
+        return entered;
     }
     let waits = Frame {
-        node: here.node,
         at: here.at + 3,
         count: here.count - 1,
+        ..here
     };
-    save(frames, pos.depth, waits);
-    Position {
-        here: entered,
-        depth: pos.depth + 1,
-    }
+    frames.push(waits);
+    entered
 }
 
 // Behind a node: its two patterns come first.
-fn after_node(src: Source, pos: Position, frames: &[u32], mark: u32) -> Position
-    requires ready { Ready src frames.now pos }
-    requires begun { Begun src pos (Node mark) }
-    ensures { (k : SourceKnown src.entry) (rest : List ℕ) → Pending src.entry k frames.now pos rest → AfterNode src.entry k frames.now result mark rest }
+fn after_node(src: Source, here: Frame, frames: &Frames, mark: u32) -> Frame
+    requires ready { Ready src frames.now here }
+    requires begun { Begun src here (Node mark) }
+    ensures { (k : SourceKnown src.entry) (rest : List ℕ) → Pending src.entry k frames.now here rest → AfterNode src.entry k frames.now result mark rest }
 {
-    let here = pos.here;
-    Position {
-        here: Frame {
-            node: here.node,
-            at: here.at + 2,
-            count: here.count + 1,
-        },
-        depth: pos.depth,
+    Frame {
+        at: here.at + 2,
+        count: here.count + 1,
+        ..here
     }
 }
 
 // Behind a leaf: the next pattern of the frame, or the frame below, or the end.
-fn after_leaf(src: Source, pos: Position, frames: &[u32], mark: u32) -> Option<Position>
-    requires room { 3 * length src.tree.now ≤ length frames.now }
-    requires ready { Ready src frames.now pos }
-    requires begun { Begun src pos (Leaf mark) }
-    ensures { (k : SourceKnown src.entry) (rest : List ℕ) → Pending src.entry k frames.now pos rest → AfterLeaf src.entry k frames.now result mark rest }
+fn after_leaf(src: Source, here: Frame, frames: &mut Frames, mark: u32) -> Option<Frame>
+    requires room { 3 * length src.tree.now ≤ length frames.old.words.now }
+    requires ready { Ready src frames.old here }
+    requires begun { Begun src here (Leaf mark) }
+    ensures long { length frames.new.words.now ≡ length frames.old.words.now }
+    ensures goes_on { (k : SourceKnown src.entry) (rest : List ℕ) → Pending src.entry k frames.old here rest → AfterLeaf src.entry k frames.new result mark rest }
 {
-    let here = pos.here;
     if here.count > 1 {
-        let next = Frame {
-            node: here.node,
+        return Some(Frame {
             at: here.at + 2,
             count: here.count - 1,
-        };
-        return Some(Position {
-            here: next,
-            depth: pos.depth,
+            ..here
         });
     }
-    if pos.depth == 0 {
-        return None;
-    }
-    let depth = pos.depth - 1;
-    Some(Position {
-        here: load(frames, depth),
-        depth,
-    })
+    frames.pop()
 }
 
+// What a state makes of a tree has more leaves and nodes than were allowed.
+#[derive(Clone, Copy, Debug, PartialEq, Eq)]
+pub struct TooLong;
+
 // Puts out what state 0 makes of the whole tree: all of it, or, where it has more leaves and nodes than `most`, only
-// so many; then the answer is false.
+// so many.
 pub fn walk<S: Sink>(
     src: Source,
     most: usize,
     frames: &mut [u32],
-    out: &mut [u32],
     sink: &mut S,
-) -> bool
-    requires known { SourceKnown src }
-    requires room { 3 * length src.tree.now ≤ length frames.old }
-    ensures { (k : SourceKnown src.entry) → Walked src.entry k most (λ us. (orig ws : List ℕ) → S.holds sink.old orig out.old ws → S.holds sink.new orig out.new (ws ++ us)) result }
+) -> Result<(), TooLong>
+    requires { 3 * length src.tree.now ≤ length frames.old }
+    ensures { (k : SourceKnown src.entry) → Walked src.entry k most (λ us. (lent : MutBor (List ℕ)) (ws : List ℕ) → S.holds sink.old lent ws → S.holds sink.new lent (ws ++ us)) result }
 {
-    let mut pos = Position {
-        here: src.enter(0, 0),
+    let mut stack = Frames {
+        words: frames,
         depth: 0,
     };
+    let mut here = src.enter(0, 0);
     let mut left = most;
     'steps: loop {
-        match step(src, pos, frames) {
+        match step(src, here, &stack) {
             Step::Made(q, part) => {
-                pos = descend(src, pos, q, part, frames);
+                here = descend(src, here, q, part, &mut stack);
             }
             Step::Node(a) => {
                 if left == 0 {
-                    return false;
+                    return Err(TooLong);
                 }
                 left -= 1;
-                sink.put(out, Item::Node(a));
-                pos = after_node(src, pos, frames, a);
+                sink.put(Item::Node(a));
+                here = after_node(src, here, &stack, a);
             }
             Step::Leaf(a) => {
                 if left == 0 {
-                    return false;
+                    return Err(TooLong);
                 }
                 left -= 1;
-                sink.put(out, Item::Leaf(a));
-                let Some(next) = after_leaf(src, pos, frames, a) else {
-                    return true;
+                sink.put(Item::Leaf(a));
+                let Some(next) = after_leaf(src, here, &mut stack, a) else {
+                    return Ok(());
                 };
-                pos = next;
+                here = next;
             }
         }
     }

@@ -1,26 +1,19 @@
-use Rattle.std.proofs.Common.{refl, inl, inr, arith}
-use Rattle.rows.proofs.TurnReads.{none_short, none_states, none_room, none_leaves, none_nodes, some_turn}
+use Rattle.std.proofs.Common.{sym, arith}
+use Rattle.rows.proofs.TurnReads.{none_room, none_leaves, none_nodes, some_turn}
 use Rattle.rows.proofs.jobs.read_turn.Goals as goal
-use Rattle.rows.proofs.jobs.read_turn.Goals.{then-states-eq0-via-then-states-eq0, then-states-eq0-via-else-states-eq0+then-states-gt-MOST_STATES}
-
-pub returns-then-at-words : goal.returns-then-at-words
-returns-then-at-words c = none_short c.args.words.now c.args.at c.args.marks c.if-at-words.true
-
-pub returns-then-states-eq0 : goal.returns-then-states-eq0
-returns-then-states-eq0 c = none_states c.args.words.now c.args.at c.args.marks _ refl
-    (elim c.then-states-eq0.branch [
-      | then-states-eq0-via-then-states-eq0 w ↦ inl (omega arith)
-      | then-states-eq0-via-else-states-eq0+then-states-gt-MOST_STATES w ↦ inr (omega arith)
-    ])
 
 pub returns-then-words-count : goal.returns-then-words-count
-returns-then-words-count c = none_room c.args.words.now c.args.at c.args.marks _ refl (omega arith)
+returns-then-words-count c = none_room c.args.words.now c.args.at c.args.marks _ (sym (c.in_ok-states.ensures.lookup.3.1 0)) c.if-words-count.true
 
-pub returns-in_default : goal.returns-in_default
-returns-in_default c = none_leaves c.args.words.now c.args.at c.args.marks _ refl c.in_default.ensures
+pub returns-in_err-mid : goal.returns-in_err-mid
+returns-in_err-mid c = rw c.from_residual-in_err-mid.ensures (none_leaves c.args.words.now c.args.at c.args.marks _ (sym (c.in_ok-states.ensures.lookup.3.1 0)) c.in_err-mid.ensures)
 
-pub returns-in_default-read_patterns : goal.returns-in_default-read_patterns
-returns-in_default-read_patterns c = none_nodes c.args.words.now c.args.at c.args.marks _ refl c.args.index.now _ c.in-Some.mid c.in-Some.ensures c.in_default-read_patterns.ensures
+pub returns-in_err-end : goal.returns-in_err-end
+returns-in_err-end c =
+    rw c.from_residual-in_err-end.ensures
+    (none_nodes c.args.words.now c.args.at c.args.marks _ (sym (c.in_ok-states.ensures.lookup.3.1 0)) c.args.index.now _ c.in_ok-mid.mid c.in_ok-mid.ensures c.in_err-end.ensures)
 
 pub returns : goal.returns
-returns c = some_turn c.args.words.now c.args.at c.args.marks _ refl c.args.index.now _ c.in-Some.mid c.in-Some.ensures _ c.in-Some-read_patterns.end (omega arith) (omega arith) (omega arith) (omega arith) c.in-Some-read_patterns.ensures
+returns c =
+    some_turn c.args.words.now c.args.at c.args.marks _ (sym (c.in_ok-states.ensures.lookup.3.1 0)) c.args.index.now _ c.in_ok-mid.mid c.in_ok-mid.ensures _ c.in_ok-end.end
+    c.in_ok-states.ensures.lookup.3.0 (omega (arith, c.if-states-eq0.false)) c.if-states-gt-MOST_STATES.false (omega arith) c.in_ok-end.ensures

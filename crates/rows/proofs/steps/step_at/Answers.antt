@@ -1,37 +1,20 @@
-use Rattle.std.proofs.Common.{refl, arith}
-use Rattle.rows.proofs.Stood.{two, three}
-use Rattle.rows.proofs.Openings.{opening}
+-- No step stands at a place: a pattern's row that begins there begins with words that are tested for.
+-- What the tests find amiss is told of the slice from the place on, so the row's beginning is told of it too.
+use Rattle.std.proofs.Common.{arith}
+use Rattle.rows.proofs.Openings.{opening, opening_rest}
 use Rattle.rows.proofs.steps.step_at.Goals as goal
-use Rattle.rows.proofs.steps.step_at.Goals.{then-at-words-via-then-at-words, then-at-words-via-else-at-words+then-words-at-lt2}
 
-pub returns-then-at-words : goal.returns-then-at-words
-returns-then-at-words c p rest u e =
-    let o = opening c.args.words.now c.args.at p rest e in
-    elim c.then-at-words.branch [
-      | then-at-words-via-then-at-words w ↦ omega arith
-      | then-at-words-via-else-at-words+then-words-at-lt2 w ↦ omega arith
-    ]
-
-pub returns-then-words-at-lt3 : goal.returns-then-words-at-lt3
-returns-then-words-at-lt3 c p rest u e =
-    let o = opening c.args.words.now c.args.at p rest e in omega (arith, o.three c.in-2.is)
-
-pub returns-in-0 : goal.returns-in-0
-returns-in-0 c = two _ _ _ _ (omega arith) c.in-0.is refl
-
-pub returns-in-1 : goal.returns-in-1
-returns-in-1 c = two _ _ _ _ (omega arith) c.in-1.is refl
-
-pub returns-in-0-words : goal.returns-in-0-words
-returns-in-0-words c = three _ _ _ _ _ (omega arith) c.in-2.is refl c.in-0-words.is
-
-pub returns-in-1-words : goal.returns-in-1-words
-returns-in-1-words c = three _ _ _ _ _ (omega arith) c.in-2.is refl c.in-1-words.is
-
-pub returns-in_default-words : goal.returns-in_default-words
-returns-in_default-words c p rest u e =
-    let o = opening c.args.words.now c.args.at p rest e in omega (arith, o.part c.in-2.is)
+pub returns-in_err-get : goal.returns-in_err-get
+returns-in_err-get c = rw c.from_residual.ensures (λ p rest u e. let o = opening c.args.words.now c.args.at p rest e in omega (arith, c.in_err-get.ensures.lookup))
 
 pub returns-in_default : goal.returns-in_default
-returns-in_default c p rest u e =
-    let o = opening c.args.words.now c.args.at p rest e in omega (arith, o.first)
+returns-in_default c p rest u e = let o = opening_rest c.args.words.now c.in_ok-get.field-0.now c.args.at p rest c.in_ok-get.ensures.lookup.0.2 e in omega arith
+
+pub returns-in_default-2 : goal.returns-in_default-2
+returns-in_default-2 c p rest u e = let o = opening_rest c.args.words.now c.in_ok-get.field-0.now c.args.at p rest c.in_ok-get.ensures.lookup.0.2 e in omega arith
+
+pub returns-in_default-3 : goal.returns-in_default-3
+returns-in_default-3 c p rest u e = let o = opening_rest c.args.words.now c.in_ok-get.field-0.now c.args.at p rest c.in_ok-get.ensures.lookup.0.2 e in omega arith
+
+pub returns-in_default-4 : goal.returns-in_default-4
+returns-in_default-4 c p rest u e = let o = opening_rest c.args.words.now c.in_ok-get.field-0.now c.args.at p rest c.in_ok-get.ensures.lookup.0.2 e in omega arith

@@ -1,5 +1,7 @@
-use Rattle.transduce.proofs.Walking.{no_step}
+use Rattle.std.proofs.Props.{props}
+use Rattle.std.proofs.Math.Logic.{∥∥₁_elim}
+use Rattle.transduce.proofs.Walking.{some_step}
 use Rattle.transduce.proofs.walks.step.Goals as goal
 
-pub unreachable-requires : goal.unreachable-requires
-unreachable-requires c = absurd (no_step c.args.src c.requires.0 c.args.frames.now c.args.pos c.requires.1 c.requires.2 c.in-None.ensures)
+pub unwrap-requires : goal.unwrap-requires
+unwrap-requires c = ∥∥₁_elim c.requires (hlevel props) (λ r. some_step c.args.src r.0 c.args.frames.now c.args.here r.1 r.2 c.step_at.result c.step_at.ensures)

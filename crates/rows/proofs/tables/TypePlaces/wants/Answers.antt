@@ -1,12 +1,8 @@
-use Rattle.std.proofs.Common.{sym, ◌∙◌, arith}
-use Rattle.rows.proofs.TableEnds.{contains_here, contains_more, contains_none}
+use Rattle.std.proofs.Common.{◌-◌}
+use Rattle.rows.specs.Standing.{slice}
+use Rattle.rows.proofs.TableEnds.{contains_by}
 use Rattle.rows.proofs.tables.TypePlaces.wants.Goals as goal
 
-pub loop-i-preserved : goal.loop-i-preserved
-loop-i-preserved c = c.loop-i.invariant ∙ contains_more c.args.words.now c.loop-i.i c.args.self.end c.args.kind (omega arith) (omega arith) c.if-words-i.false
-
-pub returns-then-words-i : goal.returns-then-words-i
-returns-then-words-i c = sym (c.loop-i.invariant ∙ contains_here c.args.words.now c.loop-i.i c.args.self.end c.args.kind (omega arith) (omega arith) c.if-words-i.true)
-
 pub returns : goal.returns
-returns c = sym (c.loop-i.invariant ∙ contains_none c.args.words.now c.loop-i.i c.args.self.end c.args.kind (omega arith))
+returns c =
+    let e = contains_by c.args.kind (slice c.args.self.wanted (c.args.self.end - c.args.self.wanted) c.args.words.now) in cc

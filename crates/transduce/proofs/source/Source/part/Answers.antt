@@ -1,4 +1,6 @@
 use Rattle.std.proofs.Common.{◌+◌, ◌*◌, ◌<◌, sym, subst, arith}
+use Rattle.std.proofs.Props.{props}
+use Rattle.std.proofs.Math.Logic.{∥∥₁_elim}
 use Rattle.model.specs.Rows.{tree_row}
 use Rattle.rows.specs.declared.steps.Part.{Part}
 use Rattle.rows.specs.Jobs.{Begins}
@@ -8,7 +10,7 @@ use Rattle.transduce.proofs.Walking.{left_begins, right_begins}
 use Rattle.transduce.proofs.source.Source.part.Goals as goal
 
 pub number_at-requires : goal.number_at-requires
-number_at-requires c = omega (arith, item_within c.args.self c.requires.known (c.args.node + 1) c.requires.inner, c.requires.known.room)
+number_at-requires c = ∥∥₁_elim c.args.self.known (hlevel props) (λ k. omega (arith, item_within c.args.self k (c.args.node + 1) c.requires, k.room))
 
 pub returns-in-Left : goal.returns-in-Left
 returns-in-Left c k a x y st =
