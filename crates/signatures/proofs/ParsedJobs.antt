@@ -8,7 +8,7 @@ use Rattle.model.specs.Jobs.{Shallow}
 use Rattle.model.specs.Rows.{side_word, pattern_row, Rows}
 use Rattle.rows.specs.Numbered.{number}
 use Rattle.rows.specs.Jobs.{Indexed, JobKnown, job_in}
-use Rattle.signatures.specs.declared.evaluate.JobAutomaton.{JobAutomaton}
+use Rattle.rows.specs.declared.jobs.KnownJob.{KnownJob}
 use Rattle.signatures.specs.Parsing.{word_side, Parsed, parse, patterns_in, turn_in, job_of}
 
 side_again : (d : Side) → word_side (side_word d) ≡ d
@@ -54,14 +54,14 @@ patterns_found s index first count ps l shallow f =
     ∙ ap (λ (k : ℕ). (parse 64 (drop (number index (first + k)) s)).pattern) place ∙ parsed))
 
 -- the turn of a known job
-pub turn_found : (a : JobAutomaton) (k : JobKnown a.job.now a.index.now a.places) → k.turns ≡ turn_in a
+pub turn_found : (a : KnownJob) (k : JobKnown a.words.now a.index.now a.places) → k.turns ≡ turn_in a
 turn_found a k =
     let w = k.rows.well_formed.turns in
     let l = k.rows.limits in
     let many : k.turns.states * a.places.marks ≡ a.places.turn.states * a.places.marks = ap (λ (n : ℕ). n * a.places.marks) k.states in
-    let leaves = patterns_found a.job.now a.index.now 0 _ k.turns.on_leaf (w.leaf_count ∙ many) l.leaf_depths k.leaf_places in
-    let nodes = patterns_found a.job.now a.index.now (a.places.turn.states * a.places.marks) _ k.turns.on_node (w.node_count ∙ many) l.node_depths k.node_places in
+    let leaves = patterns_found a.words.now a.index.now 0 _ k.turns.on_leaf (w.leaf_count ∙ many) l.leaf_depths k.leaf_places in
+    let nodes = patterns_found a.words.now a.index.now (a.places.turn.states * a.places.marks) _ k.turns.on_node (w.node_count ∙ many) l.node_depths k.node_places in
     λ i. record { states = k.states i; on_leaf = leaves i; on_node = nodes i }
 
-pub rows_found : (a : JobAutomaton) → JobKnown a.job.now a.index.now a.places → Rows a.job.now (job_of a)
-rows_found a k = subst (λ (t : Turn). Rows a.job.now (job_in a.job.now a.places t)) (turn_found a k) k.rows
+pub rows_found : (a : KnownJob) → JobKnown a.words.now a.index.now a.places → Rows a.words.now (job_of a)
+rows_found a k = subst (λ (t : Turn). Rows a.words.now (job_in a.words.now a.places t)) (turn_found a k) k.rows

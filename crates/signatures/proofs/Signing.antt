@@ -13,12 +13,13 @@ use Rattle.model.specs.Rows.{pattern_row}
 use Rattle.rows.specs.declared.trees.Item.{Item}
 use Rattle.rows.specs.declared.trees.Item.TheVariants.{Leaf, Node}
 use Rattle.rows.specs.Numbered.{number}
-use Rattle.rows.specs.Jobs.{Begins, Indexed, JobKnown}
-use Rattle.rows.specs.Tables.{type_in}
-use Rattle.signatures.specs.declared.evaluate.JobAutomaton.{JobAutomaton}
+use Rattle.rows.specs.Jobs.{Begins, Indexed, JobKnown, item_place}
+use Rattle.rows.specs.Known.{to_of}
+use Rattle.rows.proofs.Known.{job_known}
+use Rattle.rows.specs.declared.jobs.KnownJob.{KnownJob}
 use Rattle.signatures.specs.Signatures.{signature, pattern_kind, part_kind, no_part_kind, job_automaton}
 use Rattle.signatures.specs.Parsing.{job_of}
-use Rattle.signatures.specs.Evaluating.{Bounded, Evaluable, Signed, Signable, item_signature, item_pattern, item_place}
+use Rattle.signatures.specs.Evaluating.{Bounded, Evaluable, Signed, Signable, item_signature, item_pattern}
 use Rattle.automata.specs.Automata.{Reached}
 use Rattle.model.specs.Jobs.{made_by}
 use Rattle.model.proofs.KindsBelow.{kind_below}
@@ -36,13 +37,16 @@ bounded m n k parts f (p_leaf a) w h = w
 bounded m n k parts f (p_node a x y) w h = (w.0, bounded m n k parts f x w.1 h, bounded m n k parts f y w.2 h)
 bounded m n k parts f (p_part q s) w h = h w.1 q s w.0
 
-module _ (a : JobAutomaton) (k : JobKnown a.job.now a.index.now a.places) where
+module _ (a : KnownJob) where
+  abbrev k : JobKnown a.words.now a.index.now a.places
+  k = job_known a
+
   -- one pattern of the turn, at its place
-  ready : (parts : Bool) (t : Turn) (ps : List Pattern) (first i at : ℕ) (l r : List ℕ) → Indexed a.job.now a.index.now first ps → AllByRecursion (WellFormedPattern a.places.marks a.places.turn.states parts) ps → AllByRecursion Shallow ps
+  ready : (parts : Bool) (t : Turn) (ps : List Pattern) (first i at : ℕ) (l r : List ℕ) → Indexed a.words.now a.index.now first ps → AllByRecursion (WellFormedPattern a.places.marks a.places.turn.states parts) ps → AllByRecursion Shallow ps
       → i < length ps → at ≡ number a.index.now (first + i) → (parts ≡ true → (q : ℕ) (s : Side) → q < a.places.turn.states → part_kind l r q s < a.places.to.kinds)
       → Evaluable a at 64 l r (get_or ps i (p_leaf 0))
   ready parts t ps first i at l r places formed shallow h e kinds = record {
-    begins = subst (λ (z : ℕ). Begins a.job.now z (pattern_row (get_or ps i (p_leaf 0)))) (sym e) (places i h);
+    begins = subst (λ (z : ℕ). Begins a.words.now z (pattern_row (get_or ps i (p_leaf 0)))) (sym e) (places i h);
     shallow = All-get_or Shallow ps i (p_leaf 0) h shallow;
     bounded = bounded a.places.marks a.places.turn.states a.places.to.kinds parts (part_kind l r) (get_or ps i (p_leaf 0))
         (All-get_or (WellFormedPattern a.places.marks a.places.turn.states parts) ps i (p_leaf 0) h formed) kinds;
@@ -60,7 +64,7 @@ module _ (a : JobAutomaton) (k : JobKnown a.job.now a.index.now a.places) where
   part_below l r u v q left h = u.made q h
   part_below l r u v q right h = v.made q h
 
-  pub item_ready : (item : Item) (l r : List ℕ) (q at : ℕ) → Signable a item l r → q < a.places.turn.states → at ≡ number a.index.now (item_place a item q) → Evaluable a at 64 l r (item_pattern a item q)
+  pub item_ready : (item : Item) (l r : List ℕ) (q at : ℕ) → Signable a item l r → q < a.places.turn.states → at ≡ number a.index.now (item_place a.places item q) → Evaluable a at 64 l r (item_pattern a item q)
   item_ready (Leaf b) l r q at s h e =
       let w = k.rows.well_formed.turns in
       let i = pattern_place a.places.marks q b in
@@ -79,9 +83,9 @@ module _ (a : JobAutomaton) (k : JobKnown a.job.now a.index.now a.places) where
 
   -- the kinds of a signature, from the second word on
   pub item_kind : (item : Item) (l r : List ℕ) (q : ℕ) → Signable a item l r → q < a.places.turn.states
-      → get_or (item_signature a item l r) (q + 1) 0 ≡ pattern_kind (type_in a.job.now a.places.marks a.places.to) (part_kind l r) (item_pattern a item q)
+      → get_or (item_signature a item l r) (q + 1) 0 ≡ pattern_kind (to_of a) (part_kind l r) (item_pattern a item q)
   item_kind (Leaf b) l r q s h =
-      let t = type_in a.job.now a.places.marks a.places.to in
+      let t = to_of a in
       let w = k.rows.well_formed.turns in
       let i = pattern_place a.places.marks q b in
       let in_list : i < length k.turns.on_leaf = omega (arith, w.leaf_count, inside q b h s) in
@@ -91,12 +95,12 @@ module _ (a : JobAutomaton) (k : JobKnown a.job.now a.index.now a.places) where
       (no_parts_same t a.places.marks k.turns.states (no_part_kind t) (part_kind l r) (get_or k.turns.on_leaf i (p_leaf 0)) formed) in
       ap (λ (i : ℕ). get_or (item_signature a (Leaf b) l r) i 0) (add-one q) ∙ get_or-map-range_with_len (λ q. pattern_kind t (no_part_kind t) (item_pattern a (Leaf b) q)) 0 a.places.turn.states q q 0 h (omega arith) ∙ same
   item_kind (Node b) l r q s h =
-      let t = type_in a.job.now a.places.marks a.places.to in
+      let t = to_of a in
       ap (λ (i : ℕ). get_or (item_signature a (Node b) l r) i 0) (add-one q) ∙ get_or-map-range_with_len (λ q. pattern_kind t (part_kind l r) (item_pattern a (Node b) q)) 0 a.places.turn.states q q 0 h (omega arith)
 
   signature_long : (item : Item) (l r : List ℕ) → length (item_signature a item l r) ≡ a.places.turn.states + 1
-  signature_long (Leaf b) l r = omega (arith, length-map (range_with_len 0 a.places.turn.states) (λ q. pattern_kind (type_in a.job.now a.places.marks a.places.to) (no_part_kind (type_in a.job.now a.places.marks a.places.to)) (item_pattern a (Leaf b) q)), length_counting 0 a.places.turn.states)
-  signature_long (Node b) l r = omega (arith, length-map (range_with_len 0 a.places.turn.states) (λ q. pattern_kind (type_in a.job.now a.places.marks a.places.to) (part_kind l r) (item_pattern a (Node b) q)), length_counting 0 a.places.turn.states)
+  signature_long (Leaf b) l r = omega (arith, length-map (range_with_len 0 a.places.turn.states) (λ q. pattern_kind (to_of a) (no_part_kind (to_of a)) (item_pattern a (Leaf b) q)), length_counting 0 a.places.turn.states)
+  signature_long (Node b) l r = omega (arith, length-map (range_with_len 0 a.places.turn.states) (λ q. pattern_kind (to_of a) (part_kind l r) (item_pattern a (Node b) q)), length_counting 0 a.places.turn.states)
 
   -- words that are those of the signature, one by one
   pub signed_all : (item : Item) (l r out : List ℕ) → length out ≡ a.places.turn.states + 1 → get_or out 0 0 ≡ get_or (item_signature a item l r) 0 0

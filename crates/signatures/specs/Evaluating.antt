@@ -1,10 +1,10 @@
 -- Patterns evaluated on kinds, without making trees.
-use Rattle.std.specs.Prelude.{◌≡◌, ℕ, ◌+◌, ◌*◌, ◌<◌, ◌≤◌, List, length, slice_index_or}
-use Rattle.model.specs.Turns.{Side, Pattern, p_leaf, p_node, p_part, depth, pattern_place, leaf_pattern, node_pattern}
+use Rattle.std.specs.Prelude.{◌≡◌, ℕ, ◌+◌, ◌<◌, ◌≤◌, List, length, slice_index_or}
+use Rattle.model.specs.Turns.{Side, Pattern, p_leaf, p_node, p_part, depth, leaf_pattern, node_pattern}
 use Rattle.model.specs.Rows.{pattern_row}
 use Rattle.rows.specs.Jobs.{Begins}
-use Rattle.rows.specs.Tables.{type_in}
-use Rattle.signatures.specs.declared.evaluate.JobAutomaton.{JobAutomaton}
+use Rattle.rows.specs.Known.{to_of}
+use Rattle.rows.specs.declared.jobs.KnownJob.{KnownJob}
 use Rattle.signatures.specs.declared.evaluate.Valued.{Valued}
 use Rattle.rows.specs.declared.trees.Item.{Item}
 use Rattle.rows.specs.declared.trees.Item.TheVariants.{Leaf, Node}
@@ -18,42 +18,33 @@ Bounded m k part (p_node a x y) = (a < m) × Bounded m k part x × Bounded m k p
 Bounded m k part (p_part q s) = part q s < k
 
 -- a pattern stands at the place, and can be evaluated with the kinds of the parts in the signatures l and r
-pub record Evaluable (a : JobAutomaton) (at deep : ℕ) (l r : List ℕ) (p : Pattern) : Type 0 where
-  pub begins : Begins a.job.now at (pattern_row p)
+pub record Evaluable (j : KnownJob) (at deep : ℕ) (l r : List ℕ) (p : Pattern) : Type 0 where
+  pub begins : Begins j.words.now at (pattern_row p)
   pub shallow : depth p ≤ deep
-  pub bounded : Bounded a.places.marks a.places.to.kinds (part_kind l r) p
+  pub bounded : Bounded j.places.marks j.places.to.kinds (part_kind l r) p
 
 -- the pattern's kind, and where it ends
-pub record Evaluates (a : JobAutomaton) (at : ℕ) (l r : List ℕ) (p : Pattern) (v : Valued) : Type 0 where
-  pub value : v.kind ≡ pattern_kind (type_in a.job.now a.places.marks a.places.to) (part_kind l r) p
-  pub below : v.kind < a.places.to.kinds
+pub record Evaluates (j : KnownJob) (at : ℕ) (l r : List ℕ) (p : Pattern) (v : Valued) : Type 0 where
+  pub value : v.kind ≡ pattern_kind (to_of j) (part_kind l r) p
+  pub below : v.kind < j.places.to.kinds
   pub ends : v.end ≡ at + length (pattern_row p)
 
 -- the words of a signature are kinds of the two types
-pub record Signed (a : JobAutomaton) (l : List ℕ) : Type 0 where
-  pub first : slice_index_or l 0 0 < a.places.from.kinds
-  pub made : (q : ℕ) → q < a.places.turn.states → state_kind l q < a.places.to.kinds
+pub record Signed (j : KnownJob) (l : List ℕ) : Type 0 where
+  pub first : slice_index_or l 0 0 < j.places.from.kinds
+  pub made : (q : ℕ) → q < j.places.turn.states → state_kind l q < j.places.to.kinds
 
 -- a leaf or a node that can be signed: its mark is one of the job's, and its parts, if it has any, are signed
-abbrev pub Signable : JobAutomaton → Item → List ℕ → List ℕ → Type 0
-Signable a (Leaf b) l r = b < a.places.marks
-Signable a (Node b) l r = (b < a.places.marks) × Signed a l × Signed a r
+abbrev pub Signable : KnownJob → Item → List ℕ → List ℕ → Type 0
+Signable j (Leaf b) l r = b < j.places.marks
+Signable j (Node b) l r = (b < j.places.marks) × Signed j l × Signed j r
 
 -- the signature of a leaf or a node
-abbrev pub item_signature : JobAutomaton → Item → List ℕ → List ℕ → List ℕ
-item_signature a (Leaf b) l r = (job_automaton (job_of a)).on_leaf b
-item_signature a (Node b) l r = (job_automaton (job_of a)).on_node b l r
+abbrev pub item_signature : KnownJob → Item → List ℕ → List ℕ → List ℕ
+item_signature j (Leaf b) l r = (job_automaton (job_of j)).on_leaf b
+item_signature j (Node b) l r = (job_automaton (job_of j)).on_node b l r
 
 -- the pattern for a state and a leaf or a node
-abbrev pub item_pattern : JobAutomaton → Item → ℕ → Pattern
-item_pattern a (Leaf b) q = leaf_pattern a.places.marks (turn_in a) q b
-item_pattern a (Node b) q = node_pattern a.places.marks (turn_in a) q b
-
-abbrev pub item_mark : Item → ℕ
-item_mark (Leaf b) = b
-item_mark (Node b) = b
-
--- its number in the index
-abbrev pub item_place : JobAutomaton → Item → ℕ → ℕ
-item_place a (Leaf b) q = pattern_place a.places.marks q b
-item_place a (Node b) q = a.places.turn.states * a.places.marks + pattern_place a.places.marks q b
+abbrev pub item_pattern : KnownJob → Item → ℕ → Pattern
+item_pattern j (Leaf b) q = leaf_pattern j.places.marks (turn_in j) q b
+item_pattern j (Node b) q = node_pattern j.places.marks (turn_in j) q b

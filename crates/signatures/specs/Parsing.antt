@@ -5,7 +5,7 @@ use Rattle.model.specs.Turns.{Side, left, right, Pattern, p_leaf, p_node, p_part
 use Rattle.model.specs.Jobs.{Job}
 use Rattle.rows.specs.Numbered.{number}
 use Rattle.rows.specs.Jobs.{job_in}
-use Rattle.signatures.specs.declared.evaluate.JobAutomaton.{JobAutomaton}
+use Rattle.rows.specs.declared.jobs.KnownJob.{KnownJob}
 
 abbrev pub word_side : ℕ → Side
 word_side zero = left
@@ -33,12 +33,12 @@ parse (suc n) (suc (suc t) ∷ (q ∷ (d ∷ s))) = record { pattern = p_part q 
 abbrev pub patterns_in : List ℕ → List ℕ → ℕ → ℕ → List Pattern
 patterns_in s index first count = map (λ i. (parse 64 (drop (number index (first + i)) s)).pattern) (range_with_len 0 count)
 
-abbrev pub turn_in : JobAutomaton → Turn
-turn_in a = record {
-  states = a.places.turn.states;
-  on_leaf = patterns_in a.job.now a.index.now 0 (a.places.turn.states * a.places.marks);
-  on_node = patterns_in a.job.now a.index.now (a.places.turn.states * a.places.marks) (a.places.turn.states * a.places.marks);
+abbrev pub turn_in : KnownJob → Turn
+turn_in j = record {
+  states = j.places.turn.states;
+  on_leaf = patterns_in j.words.now j.index.now 0 (j.places.turn.states * j.places.marks);
+  on_node = patterns_in j.words.now j.index.now (j.places.turn.states * j.places.marks) (j.places.turn.states * j.places.marks);
 }
 
-abbrev pub job_of : JobAutomaton → Job
-job_of a = job_in a.job.now a.places (turn_in a)
+abbrev pub job_of : KnownJob → Job
+job_of j = job_in j.words.now j.places (turn_in j)

@@ -6,9 +6,7 @@ pub mod evaluate;
 ghost use Rattle.signatures.specs.Laws.{JobLaws, SignatureLaws};
 
 // Signatures tell the classes of a job, there are finitely many, and one tree of each tells whether the job fits.
-pub fn laws_stand() -> u8
+pub fn laws_stand()
     ensures signatures { SignatureLaws }
     ensures classes { JobLaws }
-{
-    0
-}
+{}

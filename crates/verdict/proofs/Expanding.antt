@@ -1,6 +1,7 @@
 -- One leaf or node taken off the trees whose ranks stand on a stack: a link says what a tree begins with, and its parts have
 -- lower ranks, so that a stack with as many places as there are ranks never overflows.
 use Rattle.std.proofs.Common.{◌≡◌, ℕ, ◌+◌, ◌-◌, ◌<◌, ◌≤◌, List, [], ◌∷◌, ◌++◌, length, get_or, drop, set, sym, ap, ◌∙◌, subst, append_assoc, arith, length-drop}
+use Rattle.std.proofs.Props.{props}
 use Rattle.std.proofs.lemmas.List.{drop_more, drop-set, length-set}
 use Rattle.model.specs.Trees.{Tree, leaf, node}
 use Rattle.model.specs.Rows.{tree_row}
@@ -23,6 +24,11 @@ node_linked S rising r h k (node a u v) e l z =
     let right = l.2.stands in
     let is : at S r ≡ node k.mark (at S (k.left - 1)) (at S (k.right - 1)) = cc in
     (is, omega (arith, before.0), omega (arith, before.1, l.2.counted))
+
+-- a link with a left part has a right part
+pub right_linked : (S : List Tree) (k : Link) (x : Tree) → Linked S k x → 0 < k.left → 0 < k.right
+right_linked S k (leaf a) l z = absurd (omega (arith, l.1))
+right_linked S k (node a u v) l z = omega (arith, l.2.counted)
 
 module _ (S : List Tree) (s : List ℕ) (top : ℕ) (h : top < length s) where
   abbrev rest : List ℕ
@@ -54,15 +60,12 @@ module _ (n : ℕ) (s : List ℕ) (top : ℕ) (h : top < length s) (low : Low n 
   first_low : (get_or s top 0 + length (drop (top + 1) s) < n) × Low n (drop (top + 1) s)
   first_low = subst (Low n) (drop_more s top 0 h) low
 
-  pub rank_low : get_or s top 0 < n
-  rank_low = omega (arith, first_low.0)
-
-  pub low_rest : Low n (drop (top + 1) s)
-  low_rest = first_low.1
-
   pub top_positive : n ≤ length s → 0 < get_or s top 0 → 0 < top
   top_positive room z = omega (arith, first_low.0, length-drop (top + 1) s)
 
-  pub low_pushed : (p q : ℕ) → p < get_or s top 0 → q < get_or s top 0 → 0 < top → Low n (drop (top - 1) (set (set s top q) (top - 1) p))
-  low_pushed p q hp hq z =
-      subst (Low n) (sym (pushed_is [] s top h p q z)) (omega (arith, first_low.0), (omega (arith, first_low.0), first_low.1))
+  pub node_low : (p q : ℕ) → p < get_or s top 0 → q < get_or s top 0 → 0 < top → Low n (drop (top - 1) (set (set s top q) (top - 1) p))
+  node_low p q i k z = subst (Low n) (sym (pushed_is [] s top h p q z)) (omega (arith, first_low.0), (omega (arith, first_low.0), first_low.1))
+
+pub Low-prop : (n : ℕ) (rs : List ℕ) → IsProp (Low n rs)
+Low-prop n [] = hlevel props
+Low-prop n (r ∷ rs) = hlevel (props, Low-prop n rs)

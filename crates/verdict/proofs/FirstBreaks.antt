@@ -1,12 +1,12 @@
 -- The first of the least trees that breaks a job is the least of all that break it: another that does so is alike to one of the
 -- list, which breaks the job too, and so stands no earlier; and it is not less than that one.
 use Rattle.std.proofs.Common.{◌≡◌, ℕ, ◌<◌, Bool, true, false, not, ◌&&◌, List, length, sym, ap, ◌∙◌, subst, inl, inr, arith}
-use Rattle.std.proofs.lemmas.Bool.{true≢false, not-true, not_from_false, and_parts, and_from}
+use Rattle.std.proofs.lemmas.Bool.{true≢false, not-true, not_from_false, and_parts, and_from, cases_order}
 use Rattle.model.specs.Trees.{Tree, Less}
 use Rattle.model.specs.Types.{contains, is_of}
 use Rattle.model.specs.Jobs.{Job, Alike, Comes, Good, FitsAll, result, WellFormedJob}
 use Rattle.automata.specs.Classes.{at}
-use Rattle.automata.proofs.Comparing.{transitive, numbers_total}
+use Rattle.automata.proofs.Comparing.{transitive}
 use Rattle.signatures.specs.JobClasses.{JobClasses, LeastBreak}
 use Rattle.signatures.proofs.Telling.{one_tells_all}
 
@@ -53,12 +53,10 @@ module _ (j : Job) (w : WellFormedJob j) (ts : List Tree) (c : JobClasses j ts) 
           let k = g.place in
           let too : breaks j (at ts k) ≡ true = same_breaks (at ts k) y g.alike ∙ bad_breaks y comes bad in
           let back = sym_alike (at ts k) y g.alike in
-          elim (numbers_total k r) [
-            | inl u ↦ true≢false (sym too ∙ f k u)
-            | inr u ↦ elim u [
-              | inl q ↦ c.least k g.within y comes.marked (subst (λ (i : ℕ). Less y (at ts i)) (sym q) less) back
-              | inr q ↦ c.least k g.within y comes.marked (transitive y (at ts r) (at ts k) less (c.order r k q g.within)) back
-            ]
+          elim (cases_order k r) [
+            | inl q ↦ c.least k g.within y comes.marked (subst (λ (i : ℕ). Less y (at ts i)) (sym q) less) back
+            | inr (inl u) ↦ true≢false (sym too ∙ f k u)
+            | inr (inr q) ↦ c.least k g.within y comes.marked (transitive y (at ts r) (at ts k) less (c.order r k q g.within)) back
           ]
         where
           sym_alike : (x z : Tree) → Alike j x z → Alike j z x

@@ -1,5 +1,5 @@
 -- A table in which all classes are found, read off: its least trees by rank, and what their signatures say of the job.
-use Rattle.std.proofs.Common.{◌≡◌, ℕ, ◌<◌, Bool, not, ◌&&◌, List, length, Some, None, sym, ap, ◌∙◌, subst, arith}
+use Rattle.std.proofs.Common.{◌≡◌, ℕ, ◌<◌, Bool, not, ◌&&◌, List, length, Some, None, Result, sym, ap, ◌∙◌, subst, arith}
 use Rattle.model.specs.Trees.{Tree, size}
 use Rattle.model.specs.Types.{contains, is_of}
 use Rattle.model.specs.Jobs.{Job, FitsAll, WellFormedJob}
@@ -16,6 +16,7 @@ use Rattle.signatures.specs.JobClasses.{JobClasses, FewClasses, LeastBreak}
 use Rattle.signatures.proofs.Computing.{computed, kind_of_state}
 use Rattle.signatures.proofs.Telling.{from_classes}
 use Rattle.verdict.specs.declared.Verdict.{Verdict}
+use Rattle.verdict.specs.declared.Undecided.{Undecided}
 use Rattle.verdict.specs.Ranked.{Holds}
 use Rattle.verdict.specs.Verdicts.{breaks_by, breaks_at, FirstBreak, Decides}
 use Rattle.verdict.proofs.FirstBreaks.{breaks, none_breaks, first_breaks}
@@ -60,6 +61,6 @@ module _ (j : Job) (w : WellFormedJob j) (t : Table) (f : AllFound (job_automato
       first_breaks j w S classes r within (sym (read_breaks r within) ∙ e) (λ k l. sym (read_breaks k (omega (arith, within))) ∙ g k l)
 
 -- rows say one job, so that what is decided of one reading of the words is decided of every other
-pub decides_as : (s : List ℕ) (i j : Job) → Rows s i → Rows s j → (m n : ℕ) → m ≡ n → (o o' : List ℕ) (v : Verdict) → Decides i m o o' v → Decides j n o o' v
+pub decides_as : (s : List ℕ) (i j : Job) → Rows s i → Rows s j → (m n : ℕ) → m ≡ n → (o o' : List ℕ) (v : Result Verdict Undecided) → Decides i m o o' v → Decides j n o o' v
 decides_as s i j p q m n e o o' v d =
     subst (λ (k : ℕ). Decides j k o o' v) e (subst (λ (k : Job). Decides k m o o' v) (row_laws.one_job s i j p q) d)

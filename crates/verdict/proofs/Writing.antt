@@ -25,6 +25,10 @@ row_long S t held r h i e k f =
     let z : k.size ≡ size (at S r) = ap (λ (l : Link). l.size) (f ∙ ap (tree_at t) e) ∙ held.sized r (omega (arith, held.ranks)) in
     omega (arith, z, tree_words (at S r))
 
+-- there is room for the row if there is for twice its size
+pub room_for : (S : List Tree) (t : Table) → Holds S t → (r : ℕ) → r < t.settled → (i : ℕ) → i ≡ ranked_at t r → (k : Link) → k ≡ tree_at t i → (out : List ℕ) → 2 * k.size ≤ length out → length (tree_row (at S r)) ≤ length out
+room_for S t held r h i e k f out z = omega (arith, row_long S t held r h i e k f, z)
+
 pub one_rank : (s : List ℕ) (r : ℕ) → 0 < length s → drop (length s - 1) (set s (length s - 1) r) ≡ r ∷ []
 one_rank s r h =
     drop-set s (length s - 1) r (omega arith) ∙ ap (λ (rest : List ℕ). r ∷ rest) (drop_all (length s - 1 + 1) s (omega arith))
@@ -36,9 +40,6 @@ module _ (S : List Tree) (row orig : List ℕ) (room : length row ≤ length ori
   module _ (used : ℕ) (out stack : List ℕ) (u : Underway S row used orig out stack) where
     fits : length u.done + length (rows_of S stack) ≤ length orig
     fits = omega (arith, ap length u.whole, length-append u.done (rows_of S stack))
-
-    pub used_within : used ≤ length orig
-    used_within = omega (arith, (u.holds (omega (arith, fits))).0, fits)
 
     pub finished : stack ≡ [] → Placed row orig out used
     finished e =
@@ -52,11 +53,11 @@ module _ (S : List Tree) (row orig : List ℕ) (room : length row ≤ length ori
         }
 
     module _ (used' : ℕ) (out' stack' : List ℕ) (x : Item) (e : Expanded S stack stack' x)
-        (put : (orig ws : List ℕ) → Written used orig out ws → Written used' orig out' (ws ++ item_row x)) where
+        (put : (ws : List ℕ) → Written used orig out ws → Written used' orig out' (ws ++ item_row x)) where
       pub further : Underway S row used' orig out' stack'
       further = record {
         done = u.done ++ item_row x;
-        holds = put orig u.done u.holds;
+        holds = put u.done u.holds;
         whole = u.whole ∙ ap (λ (w : List ℕ). u.done ++ w) e.words ∙ sym (append_assoc u.done (item_row x) (rows_of S stack'));
       }
 
@@ -65,5 +66,5 @@ module _ (S : List Tree) (row orig : List ℕ) (room : length row ≤ length ori
           let long = fits in
           let rows = ap length e.words ∙ length-append (item_row x) (rows_of S stack') in
           let more = length-append u.done (item_row x) in
-          let h = put orig u.done u.holds (omega (arith, long, rows, more, item_long x)) in
+          let h = put u.done u.holds (omega (arith, long, rows, more, item_long x)) in
           (omega (arith, h.0, (u.holds (omega (arith, long))).0, more, item_long x), omega (arith, h.0, long, rows, more, item_long x))

@@ -1,3 +1,4 @@
 -- Least trees read off a table, and what is decided of a job.
 pub mod Ranked
 pub mod Verdicts
+pub mod Words

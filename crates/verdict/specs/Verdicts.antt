@@ -1,5 +1,5 @@
 -- What is decided of a job: it fits, or the least tree that breaks it.
-use Rattle.std.specs.Prelude.{◌≡◌, ℕ, ◌<◌, Bool, true, false, not, ◌&&◌, List, length, Some, None, Option, slice_index}
+use Rattle.std.specs.Prelude.{◌≡◌, ℕ, ◌<◌, Bool, true, false, not, ◌&&◌, List, length, Some, None, Option, Ok, Err, Result, slice_index}
 use Rattle.model.specs.Trees.{Tree}
 use Rattle.model.specs.Types.{contains}
 use Rattle.model.specs.Jobs.{Job, FitsAll}
@@ -9,7 +9,9 @@ use Rattle.table.specs.Tables.{sig_at, ranked_at}
 use Rattle.signatures.specs.Signatures.{state_kind}
 use Rattle.signatures.specs.JobClasses.{FewClasses, ManyClasses, LeastBreak}
 use Rattle.verdict.specs.declared.Verdict.{Verdict}
-use Rattle.verdict.specs.declared.Verdict.TheVariants.{Many, Fits, TooLong, Breaks}
+use Rattle.verdict.specs.declared.Verdict.TheVariants.{Fits, Breaks}
+use Rattle.verdict.specs.declared.Undecided.{Undecided}
+use Rattle.verdict.specs.declared.Undecided.TheVariants.{Many, TooLong}
 use Rattle.verdict.specs.Ranked.{Placed}
 
 -- trees with this signature come in, and what becomes of them is not of the second type
@@ -47,8 +49,8 @@ pub record Overflowing (j : Job) (n : ℕ) (o o' : List ℕ) : Type 0 where
   pub kept : o' ≡ o
 
 -- what is said of a job with n classes at most, where what was lent for a tree was o and is o'
-abbrev pub Decides : Job → ℕ → List ℕ → List ℕ → Verdict → Type 0
-Decides j n o o' Many = ManyClasses j n × (o' ≡ o)
-Decides j n o o' Fits = Fitting j n o o'
-Decides j n o o' TooLong = Overflowing j n o o'
-Decides j n o o' (Breaks k) = Breaking j n o o' k
+abbrev pub Decides : Job → ℕ → List ℕ → List ℕ → Result Verdict Undecided → Type 0
+Decides j n o o' (Err Many) = ManyClasses j n × (o' ≡ o)
+Decides j n o o' (Ok Fits) = Fitting j n o o'
+Decides j n o o' (Err TooLong) = Overflowing j n o o'
+Decides j n o o' (Ok (Breaks k)) = Breaking j n o o' k

@@ -4,5 +4,5 @@ use Rattle.signatures.proofs.evaluate.sign.Given as goal
 
 abbrev pub invariant-loop-q : goal.invariant-loop-q
 invariant-loop-q l =
-    (get_or l.out 0 0 ≡ get_or (item_signature l.a l.item l.left l.right) 0 0)
-    × ((i : ℕ) → i < l.q → get_or l.out (i + 1) 0 ≡ get_or (item_signature l.a l.item l.left l.right) (i + 1) 0)
+    (get_or l.out 0 0 ≡ get_or (item_signature l.job l.item l.parts.left.now l.parts.right.now) 0 0)
+    × ((i : ℕ) → i < l.q → get_or l.out (i + 1) 0 ≡ get_or (item_signature l.job l.item l.parts.left.now l.parts.right.now) (i + 1) 0)
