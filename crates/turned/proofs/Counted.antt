@@ -1,33 +1,36 @@
 -- Counted first, then written: what the two walks over the result come to.
 -- A walk that stops early has put out fewer leaves and nodes than the result has, so that there is no room for it.
-use Rattle.std.proofs.Common.{◌≡◌, ℕ, ◌-◌, ◌^◌, ◌<◌, ◌≤◌, min, Bool, true, false, ◌⊎◌, List, [], ◌++◌, length, drop, sym, refl, inl, inr, arith}
+use Rattle.std.proofs.Common.{◌≡◌, ℕ, ◌*◌, ◌-◌, ◌^◌, ◌<◌, ◌≤◌, min, List, [], ◌++◌, length, drop, Ok, Err, Result, sym, refl, arith}
+use Rattle.std.specs.Borrow.{MutBor}
 use Rattle.std.proofs.lemmas.Bool.{true≢false}
+use Rattle.std.specs.Result.{IsOk, IsErr}
 use Rattle.transduce.specs.declared.source.Source.{Source}
+use Rattle.transduce.specs.declared.walks.TooLong.{TooLong}
 use Rattle.transduce.specs.Framed.{SourceKnown, result_row}
 use Rattle.transduce.specs.Walks.{Walked}
 
--- a counter that began at 0 has counted these words to n, and left what was o as o'
-abbrev pub Counts : ℕ → List ℕ → List ℕ → List ℕ → Type 0
-Counts n o o' us = (orig ws : List ℕ) → (0 ≡ min (length ws) (2 ^ 64 - 1)) × (o ≡ orig) → (n ≡ min (length (ws ++ us)) (2 ^ 64 - 1)) × (o' ≡ orig)
+-- a counter that began at 0 has counted these words to n
+abbrev pub Counts : ℕ → List ℕ → Type 0
+Counts n us = (lent : MutBor (List ℕ)) (ws : List ℕ) → 0 ≡ min (length ws) (2 ^ 64 - 1) → n ≡ min (length (ws ++ us)) (2 ^ 64 - 1)
 
--- a writer that began at 0 has written these words
-abbrev pub Writes : ℕ → List ℕ → List ℕ → List ℕ → Type 0
-Writes n o o' us = (orig ws : List ℕ) → (length ws ≤ length orig → (0 ≡ length ws) × (o ≡ ws ++ drop (length ws) orig))
-    → length (ws ++ us) ≤ length orig → (n ≡ length (ws ++ us)) × (o' ≡ (ws ++ us) ++ drop (length (ws ++ us)) orig)
+-- a writer that began at 0 in what was lent has written these words
+abbrev pub Writes : MutBor (List ℕ) → ℕ → MutBor (List ℕ) → List ℕ → Type 0
+Writes first n last us = (lent : MutBor (List ℕ)) (ws : List ℕ)
+    → (first.ghost_name ≡ lent.ghost_name) × (length ws ≤ length lent.now → (0 ≡ length ws) × (first.now ≡ ws ++ drop (length ws) lent.now))
+    → (last.ghost_name ≡ lent.ghost_name) × (length (ws ++ us) ≤ length lent.now → (n ≡ length (ws ++ us)) × (last.now ≡ (ws ++ us) ++ drop (length (ws ++ us)) lent.now))
 
-module _ (src : Source) (k : SourceKnown src) (o o' : List ℕ) (n : ℕ) where
-  counted : (us : List ℕ) → Counts n o o' us → (n ≡ min (length us) (2 ^ 64 - 1)) × (o' ≡ o)
-  counted us h = h o [] (omega arith, refl)
+module _ (src : Source) (k : SourceKnown src) (n most : ℕ) where
+  pub cut_short : (r : Result (Unit {0}) TooLong) → IsErr r → Walked src k most (Counts n) r → 2 * most < length (result_row src k)
+  cut_short (Ok u) e w = absurd (true≢false (sym e))
+  cut_short (Err x) e w = w.2
 
-  pub too_long : (r : Bool) → Walked src k (length o) (Counts n o o') r → (r ≡ false) ⊎ (length o < n) → (length o < length (result_row src k)) × (o' ≡ o)
-  too_long true w (inl e) = absurd (true≢false e)
-  too_long true w (inr h) = let c = counted (result_row src k) w.0 in (omega (arith, c.0), c.1)
-  too_long false w h = let c = counted w.0 w.1 in (omega (arith, w.2), c.1)
+  pub all_counted : (lent : MutBor (List ℕ)) (r : Result (Unit {0}) TooLong) → IsOk r → Walked src k most (Counts n) r → n ≡ min (length (result_row src k)) (2 ^ 64 - 1)
+  all_counted lent (Ok u) e w = w.0 lent [] (omega arith)
+  all_counted lent (Err x) e w = absurd (true≢false (sym e))
 
-  pub has_room : (r : Bool) → Walked src k (length o) (Counts n o o') r → r ≡ true → n ≤ length o → length o < 2 ^ 64 - 1 → (n ≡ length (result_row src k)) × (o' ≡ o)
-  has_room true w e h l = let c = counted (result_row src k) w.0 in (omega (arith, c.0), c.1)
-  has_room false w e h l = absurd (true≢false (sym e))
-
-  pub written : (r : Bool) → Walked src k (length o) (Writes n o o') r → length (result_row src k) ≤ length o → o' ≡ result_row src k ++ drop (length (result_row src k)) o
-  written true w h = (w.0 o [] (λ _. (omega arith, refl)) h).1
-  written false w h = absurd (omega (arith, w.2))
+  -- where there is room for all, all is written
+  pub written : (first last : MutBor (List ℕ)) (r : Result (Unit {0}) TooLong) → Walked src k most (Writes first n last) r
+      → length (result_row src k) ≤ 2 * most → length (result_row src k) ≤ length first.now
+      → (last.ghost_name ≡ first.ghost_name) × (last.now ≡ result_row src k ++ drop (length (result_row src k)) first.now)
+  written first last (Ok u) w l h = let all = w.0 first [] (refl, λ _. (omega arith, refl)) in (all.0, (all.1 h).1)
+  written first last (Err x) w l h = absurd (omega (arith, w.2))

@@ -1,5 +1,5 @@
 -- What `judge` promises.
-use Rattle.std.specs.Prelude.{◌≡◌, ℕ, ◌+◌, ◌*◌, ◌<◌, true, ◌↔◌, List, length, take, drop}
+use Rattle.std.specs.Prelude.{◌≡◌, ℕ, ◌+◌, ◌*◌, ◌<◌, true, ◌↔◌, List, length, take, drop, Ok, Err, Result}
 use Rattle.model.specs.Trees.{Tree, Marked}
 use Rattle.model.specs.Types.{is_of}
 use Rattle.model.specs.Jobs.{Job, FitsAll}
@@ -8,9 +8,10 @@ use Rattle.model.specs.Laws.{RowLaws, TreeOrder}
 use Rattle.automata.specs.Laws.{AutomatonLaws}
 use Rattle.signatures.specs.JobClasses.{FewClasses, ManyClasses, LeastBreak}
 use Rattle.signatures.specs.Laws.{JobLaws}
-use Rattle.turned.specs.declared.Judged.{Judged}
-use Rattle.turned.specs.declared.Judged.TheVariants.{Fits, Breaks, NoJob, Many, OutFull, Few}
-use Rattle.turned.specs.declared.Done.TheVariants.{Result}
+pub use Rattle.verdict.specs.declared.Verdict.{Verdict}
+pub use Rattle.verdict.specs.declared.Verdict.TheVariants.{Fits, Breaks}
+use Rattle.turned.specs.declared.Unjudged.{Unjudged}
+use Rattle.turned.specs.declared.Unjudged.TheVariants.{NoJob, Many, OutFull, Few}
 use Rattle.turned.specs.Turning.{IsNoJob, DonePost}
 
 -- s is a job with at most n classes
@@ -49,13 +50,14 @@ pub record IsOutFull (s : List ℕ) (n : ℕ) (o o' : List ℕ) : Type 0 where
   pub long : length o < length (tree_row tree)
   pub kept : o' ≡ o
 
-abbrev pub JudgedSays : List ℕ → ℕ → List ℕ → List ℕ → Judged → Type 0
-JudgedSays s n o o' Fits = IsFit s n o o'
-JudgedSays s n o o' (Breaks k) = IsBroken s n o o' k
-JudgedSays s n o o' NoJob = IsNoJob s o o'
-JudgedSays s n o o' Many = HasMany s n o o'
-JudgedSays s n o o' OutFull = IsOutFull s n o o'
-JudgedSays s n o o' Few = o' ≡ o
+-- what is meant by each answer
+abbrev pub JudgedSays : List ℕ → ℕ → List ℕ → List ℕ → Result Verdict Unjudged → Type 0
+JudgedSays s n o o' (Ok Fits) = IsFit s n o o'
+JudgedSays s n o o' (Ok (Breaks k)) = IsBroken s n o o' k
+JudgedSays s n o o' (Err NoJob) = IsNoJob s o o'
+JudgedSays s n o o' (Err Many) = HasMany s n o o'
+JudgedSays s n o o' (Err OutFull) = IsOutFull s n o o'
+JudgedSays s n o o' (Err Few) = o' ≡ o
 
 -- the work words that `judge` asks for
 abbrev pub judge_words : List ℕ → ℕ → ℕ
@@ -63,9 +65,9 @@ judge_words s n = 4096 + (4 * length s + (n + 1) * (256 + n))
 
 -- the promise: s are the job's words, n how many classes are allowed, o what was lent for a tree, o' what it is, w how many
 -- work words were lent
-pub record JudgedPost (s : List ℕ) (n : ℕ) (o o' : List ℕ) (w : ℕ) (r : Judged) : Type 0 where
+pub record JudgedPost (s : List ℕ) (n : ℕ) (o o' : List ℕ) (w : ℕ) (r : Result Verdict Unjudged) : Type 0 where
   pub says : JudgedSays s n o o' r
-  pub few : (w < judge_words s n) ↔ (r ≡ Few)
+  pub few : (w < judge_words s n) ↔ (r ≡ Err Few)
   -- rows say one job and one tree
   pub rows_say_one : RowLaws
   -- the order of trees is total, so that a least tree is the only one
@@ -87,4 +89,4 @@ pub record OfSecond (s words : List ℕ) : Type 0 where
 -- The two calls together: where a job fits, whatever `turn` gives for it is of the second type.
 abbrev pub CallsTogether : Type 0
 CallsTogether = (s t t' a o o' : List ℕ) (n v w k : ℕ)
-    → JudgedPost s n t t' v Fits → DonePost s a o o' w (Result k) → OfSecond s (take k o')
+    → JudgedPost s n t t' v (Ok Fits) → DonePost s a o o' w (Ok k) → OfSecond s (take k o')

@@ -3,3 +3,5 @@ pub mod Filling
 pub mod Turning
 pub mod Putting
 pub mod Judging
+pub mod Words
+pub mod Undecided

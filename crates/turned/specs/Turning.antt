@@ -1,12 +1,12 @@
 -- What `turn` promises.
-use Rattle.std.specs.Prelude.{◌≡◌, ℕ, ◌+◌, ◌*◌, ◌<◌, false, ◌↔◌, List, length, take, drop}
+use Rattle.std.specs.Prelude.{◌≡◌, ℕ, ◌+◌, ◌*◌, ◌<◌, false, ◌↔◌, List, length, take, drop, Ok, Err, Result}
 use Rattle.model.specs.Trees.{Tree, Marked}
 use Rattle.model.specs.Types.{is_of}
 use Rattle.model.specs.Jobs.{Job, Comes, result}
 use Rattle.model.specs.Rows.{tree_row, Rows}
 use Rattle.model.specs.Laws.{RowLaws}
-use Rattle.turned.specs.declared.Done.{Done}
-use Rattle.turned.specs.declared.Done.TheVariants.{Result, NotOf, NoSuch, NoTree, Full, Small}
+use Rattle.turned.specs.declared.Unturned.{Unturned}
+use Rattle.turned.specs.declared.Unturned.TheVariants.{NotOf, NoSuch, NoTree, Full, Small}
 use Rattle.turned.specs.Filling.{FillingLaws}
 
 -- s is a job and a is a tree that comes in
@@ -52,21 +52,22 @@ pub record IsFull (s a o o' : List ℕ) : Type 0 where
   pub long : length o < length (tree_row (result taken.job taken.tree))
   pub kept : o' ≡ o
 
-abbrev pub DoneSays : List ℕ → List ℕ → List ℕ → List ℕ → Done → Type 0
-DoneSays s a o o' (Result k) = GivesResult s a o o' k
-DoneSays s a o o' NotOf = IsNotOf s a o o'
-DoneSays s a o o' NoSuch = IsNoJob s o o'
-DoneSays s a o o' NoTree = IsNoTree s a o o'
-DoneSays s a o o' Full = IsFull s a o o'
-DoneSays s a o o' Small = o' ≡ o
+-- what is meant by each answer
+abbrev pub DoneSays : List ℕ → List ℕ → List ℕ → List ℕ → Result ℕ Unturned → Type 0
+DoneSays s a o o' (Ok k) = GivesResult s a o o' k
+DoneSays s a o o' (Err NotOf) = IsNotOf s a o o'
+DoneSays s a o o' (Err NoSuch) = IsNoJob s o o'
+DoneSays s a o o' (Err NoTree) = IsNoTree s a o o'
+DoneSays s a o o' (Err Full) = IsFull s a o o'
+DoneSays s a o o' (Err Small) = o' ≡ o
 
 -- the work words that `turn` asks for
 abbrev pub turn_words : List ℕ → List ℕ → ℕ
 turn_words s a = 4096 + (4 * length s + 8 * length a)
 
 -- the promise: s are the job's words, a the tree's, o what out was, o' what it is, w how many work words were lent
-pub record DonePost (s a o o' : List ℕ) (w : ℕ) (r : Done) : Type 0 where
+pub record DonePost (s a o o' : List ℕ) (w : ℕ) (r : Result ℕ Unturned) : Type 0 where
   pub says : DoneSays s a o o' r
-  pub small : (w < turn_words s a) ↔ (r ≡ Small)
+  pub small : (w < turn_words s a) ↔ (r ≡ Err Small)
   pub rows_say_one : RowLaws
   pub filling : FillingLaws

@@ -1,27 +1,30 @@
 // The public calls: `judge` says of a job whether it fits, `turn` turns one tree.
 #![tactic(auto)]
 
-ghost use Rattle.std.specs.Prelude.{◌≡◌, ◌+◌, ◌*◌, ◌<◌, ◌≤◌, true, ◌↔◌, length, ◌≢◌};
+ghost use Rattle.std.specs.Prelude.{◌≡◌, ◌+◌, ◌*◌, ◌≤◌, length, ◌≢◌, Err};
 ghost use Rattle.transduce.specs.Framed.{SourceKnown};
 ghost use Rattle.turned.specs.Putting.{PutSays};
-ghost use Rattle.turned.specs.declared.Done.TheVariants.{Small};
-ghost use Rattle.turned.specs.declared.Judged.TheVariants.{Few};
+ghost use Rattle.turned.specs.declared.Unturned.TheVariants.{Small};
+ghost use Rattle.turned.specs.declared.Unjudged.TheVariants.{Few};
 ghost use Rattle.turned.specs.Turning.{DonePost, DoneSays};
 ghost use Rattle.turned.specs.Judging.{JudgedPost, JudgedSays, CallsTogether};
 
-use rows::jobs::read_job;
+use rows::jobs::{KnownJob, read_job};
 use rows::trees::read_tree;
-use signatures::evaluate::JobAutomaton;
+use std::error::Error;
+use std::fmt;
 use transduce::sinks::{Counter, Writer};
 use transduce::source::Source;
 use transduce::walks::walk;
-use verdict::{Verdict, decide};
+pub use verdict::Verdict;
+use verdict::{Undecided, decide};
 
-// What came of a tree: a result of so many words, or why there is none.
-#[derive(Clone, Copy)]
-pub enum Done {
-    // the result's words stand first in what was lent for it
-    Result(usize),
+// What came of a tree: a result of so many words, which stand first in what was lent for it, or why there is none.
+pub type Done = Result<usize, Unturned>;
+
+// Why a tree has no result.
+#[derive(Clone, Copy, Debug, PartialEq, Eq)]
+pub enum Unturned {
     // the tree is not of the first type
     NotOf,
     // the words are no job
@@ -34,13 +37,31 @@ pub enum Done {
     Small,
 }
 
+impl fmt::Display for Unturned {
+    ghost use Rattle.std.specs.Prelude.{Some};
+    ghost use Rattle.turned.specs.Words.{unturned_words};
+
+    ghost output = { λ why. Some (unturned_words why) };
+
+    fn fmt<W: fmt::Write>(&self, f: &mut fmt::Formatter<W>) -> fmt::Result {
+        match self {
+            Unturned::NotOf => f.write_str("not of"),
+            Unturned::NoSuch => f.write_str("no such"),
+            Unturned::NoTree => f.write_str("no tree"),
+            Unturned::Full => f.write_str("full"),
+            Unturned::Small => f.write_str("small"),
+        }
+    }
+}
+
+impl Error for Unturned {}
+
 // What is said of a job: that it fits, or the least tree that breaks it, or why neither is said.
-#[derive(Clone, Copy)]
-pub enum Judged {
-    // every tree of the first type becomes one of the second
-    Fits,
-    // the least tree that breaks the job, of so many words, which stand first in what was lent for it
-    Breaks(usize),
+pub type Judged = Result<Verdict, Unjudged>;
+
+// Why nothing is said of a job.
+#[derive(Clone, Copy, Debug, PartialEq, Eq)]
+pub enum Unjudged {
     // the words are no job
     NoJob,
     // there are more classes than were allowed
@@ -51,34 +72,72 @@ pub enum Judged {
     Few,
 }
 
-// Whether there are fewer work words than 4096, 4 for each of the job's and 8 for each of the tree's.
-fn is_small(job: usize, tree: usize, work: usize) -> bool
-    ensures { (work < 4096 + (4 * job + 8 * tree)) ↔ (result ≡ true) }
-{
-    (work as u128) < 4096 + (4 * job as u128 + 8 * tree as u128)
+impl fmt::Display for Unjudged {
+    ghost use Rattle.std.specs.Prelude.{Some};
+    ghost use Rattle.turned.specs.Words.{unjudged_words};
+
+    ghost output = { λ why. Some (unjudged_words why) };
+
+    fn fmt<W: fmt::Write>(&self, f: &mut fmt::Formatter<W>) -> fmt::Result {
+        match self {
+            Unjudged::NoJob => f.write_str("no job"),
+            Unjudged::Many => f.write_str("many"),
+            Unjudged::OutFull => f.write_str("out full"),
+            Unjudged::Few => f.write_str("few"),
+        }
+    }
 }
 
-// The result into out: counted first, then written if there is room.
-fn put_out(src: Source, frames: &mut [u32], out: &mut [u32]) -> Done
-    requires known { SourceKnown src }
-    requires room { 3 * length src.tree.now ≤ length frames.old }
+impl Error for Unjudged {}
+
+impl From<Undecided> for Unjudged {
+    ghost use Rattle.turned.specs.Undecided.{unjudged};
+
+    ghost from_gives = { λ why e. e ≡ unjudged why };
+
+    fn from(why: Undecided) -> Unjudged {
+        match why {
+            Undecided::Many => Unjudged::Many,
+            Undecided::TooLong => Unjudged::OutFull,
+        }
+    }
+}
+
+// The work words that `turn` asks for: 4096, 4 for each of the job's words and 8 for each of the tree's.
+pub fn turn_words(job: usize, tree: usize) -> u128
+    ensures { result ≡ 4096 + (4 * job + 8 * tree) }
+{
+    4096 + (4 * job as u128 + 8 * tree as u128)
+}
+
+// The work words that `judge` asks for: 4096, 4 for each of the job's words and, with n classes allowed, (n + 1) × (256 + n).
+pub fn judge_words(job: usize, most: u32) -> u128
+    ensures { result ≡ 4096 + (4 * job + (most + 1) * (256 + most)) }
+{
+    let n = u128::from(most);
+    4096 + (4 * job as u128 + (n + 1) * (256 + n))
+}
+
+// The result into out: counted first, then written if there is room. Gives the number of its words.
+fn put_out(src: Source, frames: &mut [u32], out: &mut [u32]) -> Option<usize>
+    requires { 3 * length src.tree.now ≤ length frames.old }
     ensures { (k : SourceKnown src.entry) → PutSays src.entry k out.old out.new result }
 {
     let most = out.len();
     let mut counter = Counter { words: 0 };
-    let whole = walk(src, most, frames, out, &mut counter);
+    walk(src, most, frames, &mut counter).ok()?;
     let words = counter.words;
-    if !whole || words > most {
-        return Done::Full;
+    if words > most {
+        return None;
     }
-    let mut writer = Writer { used: 0 };
-    let _whole = walk(src, most, frames, out, &mut writer);
-    Done::Result(words)
+    let mut writer = Writer { out, used: 0 };
+    let _whole = walk(src, most, frames, &mut writer);
+    Some(words)
 }
 
 // The tree turned, with the work words apart: an index of the job, ends and kinds of the tree's parts, and frames.
 fn turn_with<'a>(
-    job: &'a [u32],
+    words: &'a [u32],
     tree: &'a [u32],
     out: &mut [u32],
     index: &'a mut [u32],
@@ -86,30 +145,27 @@ fn turn_with<'a>(
     kinds: &mut [u32],
     frames: &mut [u32],
 ) -> Done
-    requires index { length job.now ≤ length index.old }
+    requires index { length words.now ≤ length index.old }
     requires ends { length tree.now ≤ length ends.old }
     requires kinds { length tree.now ≤ length kinds.old }
     requires frames { 3 * length tree.now ≤ length frames.old }
-    ensures says { DoneSays job.now tree.now out.old out.new result }
-    ensures large { result ≢ Small }
+    ensures says { DoneSays words.now tree.now out.old out.new result }
+    ensures large { result ≢ Err Small }
 {
-    let Ok(places) = read_job(job, index) else {
-        return Done::NoSuch;
-    };
-    let Some(kind) = read_tree(job, places.from, places.marks, tree, ends, kinds) else {
-        return Done::NoTree;
-    };
-    if !places.from.wants(job, kind) {
-        return Done::NotOf;
-    }
-    let src = Source {
-        job,
+    // there is index enough, so that the reader refuses only what is no job
+    let places = read_job(words, index).map_err(|_| Unturned::NoSuch)?;
+    let job = KnownJob {
+        words,
         index,
         places,
-        tree,
-        ends,
     };
-    put_out(src, frames, out)
+    let from = job.from_type();
+    let kind = read_tree(from, tree, ends, kinds).ok_or(Unturned::NoTree)?;
+    if !from.wants(kind) {
+        return Err(Unturned::NotOf);
+    }
+    let src = Source { job, tree, ends };
+    put_out(src, frames, out).ok_or(Unturned::Full)
 }
 
 // Turns one tree: what state 0 of the job's turn makes of it, whatever comes of it, exactly if it is of the first type.
@@ -117,8 +173,8 @@ fn turn_with<'a>(
 pub fn turn(job: &[u32], tree: &[u32], out: &mut [u32], work: &mut [u32]) -> Done
     ensures { DonePost job.now tree.now out.old out.new (length work.old) result }
 {
-    if is_small(job.len(), tree.len(), work.len()) {
-        return Done::Small;
+    if (work.len() as u128) < turn_words(job.len(), tree.len()) {
+        return Err(Unturned::Small);
     }
     let (index, rest) = work.split_at_mut(job.len());
     let (ends, rest) = rest.split_at_mut(tree.len());
@@ -126,37 +182,27 @@ pub fn turn(job: &[u32], tree: &[u32], out: &mut [u32], work: &mut [u32]) -> Don
     turn_with(job, tree, out, index, ends, kinds, frames)
 }
 
-// Whether there are fewer work words than 4096, 4 for each of the job's and, with n classes allowed, (n + 1) × (256 + n).
-fn is_few(job: usize, most: u32, work: usize) -> bool
-    ensures { (work < 4096 + (4 * job + (most + 1) * (256 + most))) ↔ (result ≡ true) }
-{
-    let n = most as u128;
-    (work as u128) < 4096 + (4 * job as u128 + (n + 1) * (256 + n))
-}
-
 // The job judged, with the work words apart: an index of the job, and room for its classes.
 fn judge_with<'a>(
-    job: &'a [u32],
+    words: &'a [u32],
     most: u32,
     tree: &mut [u32],
     index: &'a mut [u32],
     work: &mut [u32],
 ) -> Judged
-    requires index { length job.now ≤ length index.old }
+    requires index { length words.now ≤ length index.old }
     requires work { (most + 1) * (256 + most) ≤ length work.old }
-    ensures says { JudgedSays job.now most tree.old tree.new result }
-    ensures large { result ≢ Few }
+    ensures says { JudgedSays words.now most tree.old tree.new result }
+    ensures large { result ≢ Err Few }
 {
-    let Ok(places) = read_job(job, index) else {
-        return Judged::NoJob;
+    // there is index enough, so that the reader refuses only what is no job
+    let places = read_job(words, index).map_err(|_| Unjudged::NoJob)?;
+    let job = KnownJob {
+        words,
+        index,
+        places,
     };
-    let a = JobAutomaton { job, index, places };
-    match decide(a, most as usize, tree, work) {
-        Verdict::Many => Judged::Many,
-        Verdict::Fits => Judged::Fits,
-        Verdict::TooLong => Judged::OutFull,
-        Verdict::Breaks(words) => Judged::Breaks(words),
-    }
+    Ok(decide(job, most as usize, tree, work)?)
 }
 
 // Judges a job with at most so many classes: it fits, or the least tree that breaks it stands first in `tree`, and the rest
@@ -164,16 +210,14 @@ fn judge_with<'a>(
 pub fn judge(job: &[u32], most: u32, tree: &mut [u32], work: &mut [u32]) -> Judged
     ensures { JudgedPost job.now most tree.old tree.new (length work.old) result }
 {
-    if is_few(job.len(), most, work.len()) {
-        return Judged::Few;
+    if (work.len() as u128) < judge_words(job.len(), most) {
+        return Err(Unjudged::Few);
     }
     let (index, rest) = work.split_at_mut(job.len());
     judge_with(job, most, tree, index, rest)
 }
 
 // A job that `judge` says fits and a tree that `turn` gives a result for: the result is of the second type.
-pub fn calls_together() -> u8
+pub fn calls_together()
     ensures { CallsTogether }
-{
-    0
-}
+{}

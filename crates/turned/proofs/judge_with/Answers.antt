@@ -1,49 +1,27 @@
-use Rattle.std.proofs.Common.{◌≡◌, ℕ, ◌+◌, arith}
-use Rattle.rows.specs.Jobs.{job_in}
-use Rattle.turned.proofs.Deciding.{enough_words, says_many, says_fits, says_full, says_breaks}
+-- What is decided of the known job is what the promise says of it, with the same words for why nothing is.
+use Rattle.std.proofs.Common.{◌+◌, rules, arith}
+use Rattle.std.proofs.lemmas.Result.{err_from_is_err_and}
+use Rattle.rows.specs.Jobs.{job_in, JobKnown}
+use Rattle.turned.proofs.Deciding.{enough_words, says_decided, says_undecided}
 use Rattle.turned.proofs.judge_with.Goals as goal
 
-pub decide-requires : goal.decide-requires
-decide-requires c =
-    let j = c.in-Ok.ensures.1 in
-    record {
-      known = j;
-      most = omega arith;
-      work = omega (arith, enough_words (c.in-Ok.places.turn.states + 1) c.args.most (omega (arith, j.rows.limits.few_states, j.states)), c.requires.work);
-    }
+pub returns-in_err-decide-clause-says : goal.returns-in_err-decide-clause-says
+returns-in_err-decide-clause-says c =
+    let s = c.args.words.now in
+    let known : JobKnown s c.read_job.new.index c.in_ok-places.places = search rules in
+    let j = job_in s c.in_ok-places.places known.turns in
+    let p = err_from_is_err_and c.from_residual-in_err-decide.result c.from_residual-in_err-decide.ensures.1 in
+    rw (p.1, p.2) (says_undecided s j known.rows c.args.most _ _ c.in_err-decide.field-0.0 (c.in_err-decide.ensures j known.rows))
 
-pub returns-in-Many : goal.returns-in-Many
-returns-in-Many c =
-    let k = c.in-Ok.ensures.1 in
-    let j = job_in c.args.job.now c.in-Ok.places k.turns in
-    record {
-      says = says_many c.args.job.now j k.rows c.args.most _ _ (c.in-Many.ensures j k.rows);
-      large = λ z. let i : ◌≡◌ {A = ℕ} 0 1 = cc in omega arith;
-    }
+pub returns-clause-says : goal.returns-clause-says
+returns-clause-says c =
+    let s = c.args.words.now in
+    let known : JobKnown s c.read_job.new.index c.in_ok-places.places = search rules in
+    let j = job_in s c.in_ok-places.places known.turns in
+    says_decided s j known.rows c.args.most _ _ c.in_ok-decide.field-0 (c.in_ok-decide.ensures j known.rows)
 
-pub returns-in-Fits : goal.returns-in-Fits
-returns-in-Fits c =
-    let k = c.in-Ok.ensures.1 in
-    let j = job_in c.args.job.now c.in-Ok.places k.turns in
-    record {
-      says = says_fits c.args.job.now j k.rows c.args.most _ _ (c.in-Fits.ensures j k.rows);
-      large = λ z. let i : ◌≡◌ {A = ℕ} 0 1 = cc in omega arith;
-    }
-
-pub returns-in-TooLong : goal.returns-in-TooLong
-returns-in-TooLong c =
-    let k = c.in-Ok.ensures.1 in
-    let j = job_in c.args.job.now c.in-Ok.places k.turns in
-    record {
-      says = says_full c.args.job.now j k.rows c.args.most _ _ (c.in-TooLong.ensures j k.rows);
-      large = λ z. let i : ◌≡◌ {A = ℕ} 0 1 = cc in omega arith;
-    }
-
-pub returns-in-Breaks : goal.returns-in-Breaks
-returns-in-Breaks c =
-    let k = c.in-Ok.ensures.1 in
-    let j = job_in c.args.job.now c.in-Ok.places k.turns in
-    record {
-      says = says_breaks c.args.job.now j k.rows c.args.most _ _ c.in-Breaks.words (c.in-Breaks.ensures j k.rows);
-      large = λ z. let i : ◌≡◌ {A = ℕ} 0 1 = cc in omega arith;
-    }
+pub decide-requires-clause-work : goal.decide-requires-clause-work
+decide-requires-clause-work c =
+    let p = c.in_ok-places.places in
+    let known : JobKnown c.args.words.now c.read_job.new.index p = search rules in
+    omega (arith, enough_words (p.turn.states + 1) c.args.most (omega (arith, known.rows.limits.few_states, known.states)), c.requires.work)

@@ -1,22 +1,25 @@
-use Rattle.std.proofs.Common.{ℕ, ◌≤◌, List, ◌++◌, length, drop, sym, ap, ◌∙◌, subst, inl, inr, arith}
+-- Counted first: where the count is more than there is room for, or stopped early, the result is too long; else it is written whole.
+use Rattle.std.proofs.Common.{ℕ, ◌≡◌, ◌*◌, ◌≤◌, List, ◌++◌, length, drop, Some, None, sym, refl, ap, ◌∙◌, subst, rules, arith}
 use Rattle.transduce.specs.Framed.{result_row}
-use Rattle.transduce.specs.Walks.{Walked}
-use Rattle.turned.specs.declared.Done.TheVariants.{Result, Full}
-use Rattle.turned.proofs.Saying.{put_says}
-use Rattle.turned.proofs.Counted.{Writes, too_long, has_room, written}
+use Rattle.turned.proofs.Counted.{cut_short, all_counted, written}
+use Rattle.turned.proofs.Saying.{said}
 use Rattle.turned.proofs.put_out.Goals as goal
 
-pub returns-then-not-whole : goal.returns-then-not-whole
-returns-then-not-whole c k of_type = put_says c.args.src k of_type _ _ Full (too_long c.args.src k c.args.out.now c.walk-whole.new.out c.walk-whole.new.sink.words c.walk-whole.result (c.walk-whole.ensures k) (elim c.then-not-whole.either [ inl e ↦ inl e | inr h ↦ inr h.1 ]))
+pub returns-in_err-ok : goal.returns-in_err-ok
+returns-in_err-ok c k is =
+    said c.args.src k is _ _ c.from_residual.result (rw c.from_residual.ensures (omega (arith, cut_short c.args.src k _ _ c.walk.result (search rules) (c.walk.ensures k)), refl))
+
+pub returns-then-words-most : goal.returns-then-words-most
+returns-then-words-most c k is =
+    said c.args.src k is _ _ None (omega (arith, all_counted c.args.src k _ _ c.args.out c.walk.result (search rules) (c.walk.ensures k), c.if-words-most.true), refl)
 
 pub returns : goal.returns
-returns c k of_type =
-    let o = c.args.out.now in
-    let o₁ = c.walk-whole.new.out in
-    let o₂ = c.walk-whole-2.new.out in
+returns c k is =
     let row = result_row c.args.src k in
-    let count = has_room c.args.src k c.args.out.now c.walk-whole.new.out c.walk-whole.new.sink.words c.walk-whole.result (c.walk-whole.ensures k) c.if-not-whole.false (omega arith) (omega arith) in
-    let fits : length row ≤ length o = omega (arith, count.0) in
-    let walked = subst (λ (l : List ℕ). Walked c.args.src k (length o) (Writes c.walk-whole-2.new.sink.used l o₂) c.walk-whole-2.result) count.1 (c.walk-whole-2.ensures k) in
-    let all = written c.args.src k o o₂ c.walk-whole-2.new.sink.used c.walk-whole-2.result walked fits in
-    put_says c.args.src k of_type o o₂ (Result c.walk-whole.new.sink.words) (count.0, omega arith, all ∙ ap (λ (n : ℕ). row ++ drop n o) (sym count.0))
+    let o = c.args.out.now in
+    let counted = all_counted c.args.src k _ _ c.args.out c.walk.result (search rules) (c.walk.ensures k) in
+    let all : c.walk.new.sink.words ≡ length row = omega (arith, counted, c.if-words-most.false) in
+    let fits : length row ≤ length o = omega (arith, all, c.if-words-most.false) in
+    let all_written = written c.args.src k _ _ (record c.walk-whole.new.sink.out { ghost_name = _; now = o }) c.walk-whole.new.sink.out c.walk-whole.result (c.walk-whole.ensures k) (omega (arith, fits)) fits in
+    let names = all_written.0 in
+    said c.args.src k is _ _ (Some c.walk.new.sink.words) (all, c.if-words-most.false, subst (λ (xs : List ℕ). xs ≡ row ++ drop c.walk.new.sink.words o) (search rules) (all_written.1 ∙ ap (λ (i : ℕ). row ++ drop i o) (sym all)))
