@@ -2,6 +2,7 @@
 // written from them. Neither calls itself: what is open is noted on a stack, so a tree may be as deep as it is long.
 #![tactic(auto)]
 
+mod bounded;
 mod parts;
 mod reader;
 mod writer;

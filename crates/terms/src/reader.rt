@@ -1,125 +1,82 @@
 // Reads a tree that is written as a term.
-ghost use Rattle.std.specs.Prelude.{◌≡◌, ◌+◌, ◌<◌, ◌≤◌, ◌++◌, IfOk, vec_len, OnOk};
-ghost use Rattle.terms.specs.Beginnings.{Begins, IsTree, ReadTo};
-ghost use Rattle.terms.specs.Progress.{left};
+ghost use Rattle.std.specs.Prelude.{◌≡◌, ◌+◌, ◌<◌, ◌≤◌, ◌++◌, [], vec_len, OnOk};
+ghost use Rattle.terms.specs.Beginnings.{Begins, Closes, IsTree, ReadTo, item_words, to_come};
+ghost use Rattle.tokens.specs.Progress.{ahead};
 
-use crate::parts::Part;
+use crate::bounded::Bounded;
+use crate::parts::{Item, Part, Path};
 use std::alloc::Global;
-use tokens::{Fault, Lexer, Mistake, Names, TokenKind, Word, shown};
+use std::mem;
+use tokens::{Cursor, Fault, Mistake, Names, TokenKind};
 
+// What is yet to be read, the open nodes, and the words that are read.
 #[derive(Drop)]
-pub struct Reader<'t> {
-    heap: Global,
-    lexer: Lexer<'t>,
+struct Reader<'t> {
+    cursor: Cursor<'t>,
+    path: Path,
+    words: Bounded<u32>,
 }
 
-impl<'t> Reader<'t> {
-    fn advance(&mut self) -> Result<(), Fault>
-        ensures falls { OnOk result (left self.new < left self.old) }
-    {
-        if self.lexer.advance() {
-            Ok(())
-        } else {
-            Err(self.lexer.unexpected(self.heap, "more text"))
+// Behind a whole part: closes the nodes that it ends, up to the next part.
+fn close(cursor: &mut Cursor<'_>, path: &mut Path) -> Result<(), Fault>
+    ensures falls { OnOk result (ahead cursor.new ≤ ahead cursor.old) }
+    ensures closes { OnOk result (Closes path.old.parts.items path.new.parts.items) }
+{
+    while let Some(part) = path.leave()? {
+        match part {
+            Part::Left => return cursor.expect(TokenKind::Comma),
+            Part::Right => cursor.expect(TokenKind::CloseParen)?,
         }
     }
+    Ok(())
+}
 
-    fn expect(&mut self, kind: TokenKind, expected: &'static str) -> Result<(), Fault>
-        ensures falls { OnOk result (left self.new < left self.old) }
-    {
-        if self.lexer.kind() == kind {
-            self.advance()
-        } else {
-            Err(self.lexer.unexpected(self.heap, expected))
-        }
-    }
-
-    // The mark that a part begins with.
-    fn mark(&mut self, marks: &Names) -> Result<u32, Fault>
-        ensures falls { OnOk result (left self.new < left self.old) }
-        ensures below { IfOk result (λ mark. mark < marks.now.count) }
-    {
-        let Some(word) = Word::at(&self.lexer) else {
-            return Err(self.lexer.unexpected(self.heap, "a mark"));
-        };
-        let mark = word.resolve(self.heap, &self.lexer, marks)?;
-        self.advance()?;
-        Ok(mark)
-    }
-
+impl Reader<'_> {
     // Writes a leaf, or a node without its parts.
-    fn put(&self, item: [u32; 2], most: usize, words: &mut Vec<u32>) -> Result<(), Fault>
-        requires room { vec_len words.old ≤ most }
-        ensures bound { vec_len words.new ≤ most }
-        ensures after { OnOk result (words.new.items ≡ words.old.items ++ item) }
+    fn put(&mut self, item: Item) -> Result<(), Fault>
+        ensures most { self.new.words.most ≡ self.old.words.most }
+        ensures cursor { self.new.cursor ≡ self.old.cursor }
+        ensures path { self.new.path.parts.items ≡ self.old.path.parts.items }
+        ensures after { OnOk result (self.new.words.items.items ≡ self.old.words.items.items ++ item_words item) }
     {
-        if most - words.len() < 2 {
-            return Err(self.lexer.fault(Mistake::TooLong { most }));
+        if !self.words.has_room(2) {
+            let most = self.words.most;
+            return Err(self.cursor.fault(Mistake::TooLong { most }));
         }
-        words.extend_from_slice(&item)?;
+        self.words.extend(&item.words())?;
         Ok(())
     }
 
-    // Behind a whole part: closes the nodes that it ends, up to the next part.
-    fn close(&mut self, parents: &mut Vec<Part>) -> Result<(), Fault>
-        ensures falls { OnOk result (left self.new ≤ left self.old) }
+    // Reads up to the next part, or to the end of the tree.
+    fn next(&mut self, marks: &Names) -> Result<(), Fault>
+        requires begins { Begins marks.now.count (to_come self.old.path.parts.items + 1) self.old.words.items.items }
+        ensures falls { OnOk result (ahead self.new.cursor < ahead self.old.cursor) }
+        ensures most { self.new.words.most ≡ self.old.words.most }
+        ensures row { OnOk result (ReadTo marks.now.count self.new.words.items.items self.new.path.parts.items) }
     {
-        while let Some(part) = parents.pop() {
-            match part {
-                Part::Left => {
-                    self.expect(TokenKind::Comma, "`,`")?;
-                    parents.push(Part::Right)?;
-                    return Ok(());
-                }
-                Part::Right => self.expect(TokenKind::CloseParen, "`)`")?,
-            }
+        let mark = self.cursor.pick(marks)?;
+        if self.cursor.kind() != TokenKind::OpenParen {
+            self.put(Item::Leaf(mark))?;
+            return close(&mut self.cursor, &mut self.path);
         }
+        self.put(Item::Node(mark))?;
+        self.cursor.advance()?;
+        self.path.enter()?;
         Ok(())
     }
 
-    // Reads up to the next part, where `to_come` more parts of open nodes follow. Gives how many follow that one, or none
-    // where the tree is whole.
-    fn next(
-        &mut self,
-        marks: &Names,
-        most: usize,
-        words: &mut Vec<u32>,
-        parents: &mut Vec<Part>,
-        to_come: usize,
-    ) -> Result<Option<usize>, Fault>
-        requires room { vec_len words.old ≤ most }
-        requires begins { Begins marks.now.count (to_come + 1) words.old.items }
-        ensures bound { vec_len words.new ≤ most }
-        ensures falls { OnOk result (left self.new < left self.old) }
-        ensures row { IfOk result (λ next. ReadTo marks.now.count words.new.items next) }
+    // Reads a tree, behind which nothing stands.
+    fn read(&mut self, marks: &Names) -> Result<(), Fault>
+        requires no_node { self.old.path.parts.items ≡ [] }
+        requires no_word { self.old.words.items.items ≡ [] }
+        ensures most { self.new.words.most ≡ self.old.words.most }
+        ensures tree { OnOk result (IsTree marks.now.count self.new.words.items.items) }
     {
-        let mark = self.mark(marks)?;
-        if self.lexer.kind() != TokenKind::OpenParen {
-            self.put([0, mark], most, words)?;
-            self.close(parents)?;
-            if to_come == 0 {
-                return Ok(None);
-            }
-            return Ok(Some(to_come - 1));
+        self.next(marks)?;
+        while !self.path.is_empty() {
+            self.next(marks)?;
         }
-        let Some(more) = to_come.checked_add(1) else {
-            return Err(self.lexer.fault(Mistake::TooLong { most }));
-        };
-        self.put([1, mark], most, words)?;
-        self.advance()?;
-        parents.push(Part::Left)?;
-        Ok(Some(more))
-    }
-
-    fn end(&self) -> Result<(), Fault> {
-        match self.lexer.kind() {
-            TokenKind::End => Ok(()),
-            TokenKind::Strange => Err(self.lexer.unexpected(self.heap, "the end of the text")),
-            _ => {
-                let found = shown(self.heap, self.lexer.word())?;
-                Err(self.lexer.fault(Mistake::Behind { found }))
-            }
-        }
+        self.cursor.expect_end()
     }
 }
 
@@ -135,15 +92,16 @@ pub fn read_term(
     ensures bound { vec_len words.new ≤ most }
     ensures tree { OnOk result (IsTree marks.now.count words.new.items) }
 {
-    let mut reader = Reader {
-        heap,
-        lexer: Lexer::new(text),
-    };
-    let mut parents = Vec::new(heap);
-    let mut to_come = Some(0);
     words.clear();
-    while let Some(more) = to_come {
-        to_come = reader.next(marks, most, words, &mut parents, more)?;
-    }
-    reader.end()
+    let mut reader = Reader {
+        cursor: Cursor::new(heap, text),
+        path: Path::new(heap),
+        words: Bounded {
+            items: mem::replace(words, Vec::new(heap)),
+            most,
+        },
+    };
+    let outcome = reader.read(marks);
+    *words = reader.words.items;
+    outcome
 }

@@ -1,115 +1,111 @@
 // Writes a tree as a term.
-ghost use Rattle.std.specs.Prelude.{◌<◌, ◌≤◌, IfOk, vec_len, OnOk};
-ghost use Rattle.terms.specs.Beginnings.{GoesOn, IsTree};
+ghost use Rattle.std.specs.Prelude.{◌≡◌, ◌<◌, ◌≤◌, [], vec_len, OnOk};
+ghost use Rattle.terms.specs.Beginnings.{Closes, GoesOn, IsTree};
 
-use crate::parts::Part;
-use std::alloc::{AllocError, AllocFailed, Global};
+use crate::bounded::Bounded;
+use crate::parts::{Item, Part, Path};
+use std::alloc::{AllocError, Global};
+use std::mem;
+use thiserror::Error;
 use tokens::Names;
 
 // Why no term is written.
-#[derive(Clone, Copy, Debug, PartialEq)]
+#[derive(Clone, Copy, Debug, Drop, PartialEq, Error)]
 pub enum Unwritten {
-    Memory,
-    // The words are no tree with such marks.
+    #[error(transparent)]
+    Memory(#[from(alloc)] AllocError),
+    #[error("the words are no tree with such marks")]
     NoTree,
-    // The term has more bytes than it may have.
+    #[error("the term has more bytes than it may have")]
     TooLong,
 }
 
-impl From<AllocError> for Unwritten {
-    fn from(_error: AllocError) -> Unwritten {
-        Unwritten::Memory
+// The text that is written, and the open nodes.
+#[derive(Drop)]
+struct Writer {
+    text: Bounded<u8>,
+    path: Path,
+}
+
+impl Bounded<u8> {
+    fn put(&mut self, bytes: &[u8]) -> Result<(), Unwritten>
+        ensures most { self.new.most ≡ self.old.most }
+    {
+        if !self.has_room(bytes.len()) {
+            return Err(Unwritten::TooLong);
+        }
+        self.extend(bytes)?;
+        Ok(())
     }
 }
 
-impl<T: Drop> From<AllocFailed<T>> for Unwritten {
-    fn from(_error: AllocFailed<T>) -> Unwritten {
-        Unwritten::Memory
-    }
-}
-
-// Adds bytes to the text, which has at most `most`.
-fn put(text: &mut Vec<u8>, most: usize, bytes: &[u8]) -> Result<(), Unwritten>
-    requires room { vec_len text.old ≤ most }
-    ensures bound { vec_len text.new ≤ most }
+// Behind a whole part: closes the nodes that it ends, up to the next part. (Not one function with the reader's: that one's
+// promise is of the text that it reads, and a closure would have to carry it.)
+fn close(text: &mut Bounded<u8>, path: &mut Path) -> Result<(), Unwritten>
+    ensures most { text.new.most ≡ text.old.most }
+    ensures closes { OnOk result (Closes path.old.parts.items path.new.parts.items) }
 {
-    if bytes.len() > most - text.len() {
-        return Err(Unwritten::TooLong);
-    }
-    text.extend_from_slice(bytes)?;
-    Ok(())
-}
-
-// Adds the name of a mark.
-fn put_mark(
-    heap: Global,
-    text: &mut Vec<u8>,
-    most: usize,
-    marks: &Names,
-    mark: u32,
-) -> Result<(), Unwritten>
-    requires room { vec_len text.old ≤ most }
-    ensures bound { vec_len text.new ≤ most }
-    ensures below { OnOk result (mark < marks.now.count) }
-{
-    if mark >= marks.count() {
-        return Err(Unwritten::NoTree);
-    }
-    let name = marks.name(heap, mark as usize)?;
-    put(text, most, name.as_bytes())
-}
-
-// Behind a whole part: closes the nodes that it ends, up to the next part.
-fn close(parents: &mut Vec<Part>, text: &mut Vec<u8>, most: usize) -> Result<(), Unwritten>
-    requires room { vec_len text.old ≤ most }
-    ensures bound { vec_len text.new ≤ most }
-{
-    while let Some(part) = parents.pop() {
+    while let Some(part) = path.leave()? {
         match part {
-            Part::Left => {
-                put(text, most, b", ")?;
-                parents.push(Part::Right)?;
-                return Ok(());
-            }
-            Part::Right => put(text, most, b")")?,
+            Part::Left => return text.put(b", "),
+            Part::Right => text.put(b")")?,
         }
     }
     Ok(())
 }
 
-// Writes a leaf or a node, its two words, up to the next part, where `to_come` more parts of open nodes follow. Gives how
-// many follow that one, or none where the tree is whole.
-fn put_item(
-    heap: Global,
-    tag: u32,
-    mark: u32,
-    marks: &Names,
-    most: usize,
-    to_come: usize,
-    parents: &mut Vec<Part>,
-    text: &mut Vec<u8>,
-) -> Result<Option<usize>, Unwritten>
-    requires room { vec_len text.old ≤ most }
-    ensures bound { vec_len text.new ≤ most }
-    ensures row { IfOk result (λ next. GoesOn marks.now.count tag mark to_come next) }
-{
-    put_mark(heap, text, most, marks, mark)?;
-    if tag == 0 {
-        close(parents, text, most)?;
-        if to_come == 0 {
-            return Ok(None);
+impl Writer {
+    // Adds the name of a mark.
+    fn mark(&mut self, heap: Global, marks: &Names, mark: u32) -> Result<(), Unwritten>
+        ensures most { self.new.text.most ≡ self.old.text.most }
+        ensures path { self.new.path.parts.items ≡ self.old.path.parts.items }
+        ensures below { OnOk result (mark < marks.now.count) }
+    {
+        if mark >= marks.count() {
+            return Err(Unwritten::NoTree);
         }
-        return Ok(Some(to_come - 1));
+        let name = marks.name(heap, mark as usize)?;
+        self.text.put(name.as_bytes())
     }
-    if tag != 1 {
-        return Err(Unwritten::NoTree);
+
+    // Writes up to the next part, or to the end of the tree.
+    fn item(&mut self, heap: Global, marks: &Names, item: Item) -> Result<(), Unwritten>
+        ensures most { self.new.text.most ≡ self.old.text.most }
+        ensures row { OnOk result (GoesOn marks.now.count item self.old.path.parts.items self.new.path.parts.items) }
+    {
+        match item {
+            Item::Leaf(mark) => {
+                self.mark(heap, marks, mark)?;
+                close(&mut self.text, &mut self.path)
+            }
+            Item::Node(mark) => {
+                self.mark(heap, marks, mark)?;
+                self.text.put(b"(")?;
+                self.path.enter()?;
+                Ok(())
+            }
+        }
     }
-    let Some(more) = to_come.checked_add(1) else {
-        return Err(Unwritten::TooLong);
-    };
-    put(text, most, b"(")?;
-    parents.push(Part::Left)?;
-    Ok(Some(more))
+
+    // Writes a tree whose row the words are.
+    fn write(&mut self, heap: Global, marks: &Names, words: &[u32]) -> Result<(), Unwritten>
+        requires { self.old.path.parts.items ≡ [] }
+        ensures most { self.new.text.most ≡ self.old.text.most }
+        ensures tree { OnOk result (IsTree marks.now.count words.now) }
+    {
+        let (first, mut rest) = Item::split_first(words).ok_or(Unwritten::NoTree)?;
+        self.item(heap, marks, first)?;
+        while !self.path.is_empty() {
+            let (item, behind) = Item::split_first(rest).ok_or(Unwritten::NoTree)?;
+            self.item(heap, marks, item)?;
+            rest = behind;
+        }
+        if rest.is_empty() {
+            Ok(())
+        } else {
+            Err(Unwritten::NoTree)
+        }
+    }
 }
 
 // Writes the tree whose row the words are into `text`, which has at most `most` bytes in any case; what it was before is
@@ -125,20 +121,14 @@ pub fn write_term(
     ensures tree { OnOk result (IsTree marks.now.count words.now) }
 {
     text.clear();
-    let mut parents = Vec::new(heap);
-    let mut to_come = Some(0);
-    let mut at = 0;
-    while let Some(more) = to_come {
-        if words.len() - at < 2 {
-            return Err(Unwritten::NoTree);
-        }
-        let tag = words[at];
-        let mark = words[at + 1];
-        to_come = put_item(heap, tag, mark, marks, most, more, &mut parents, text)?;
-        at += 2;
-    }
-    if at < words.len() {
-        return Err(Unwritten::NoTree);
-    }
-    Ok(())
+    let mut writer = Writer {
+        text: Bounded {
+            items: mem::replace(text, Vec::new(heap)),
+            most,
+        },
+        path: Path::new(heap),
+    };
+    let outcome = writer.write(heap, marks, words);
+    *text = writer.text.items;
+    outcome
 }

@@ -11,10 +11,7 @@ pub fn zero_one(heap: Global) -> Result<Names, AllocError> {
     let mut names = Vec::new(heap);
     names.push(String::from_str(heap, "zero")?)?;
     names.push(String::from_str(heap, "one")?)?;
-    match Names::named(Sort::Mark, names) {
-        Some(marks) => Ok(marks),
-        None => Err(AllocError),
-    }
+    Names::named(Sort::Mark, names).ok_or(AllocError)
 }
 
 // The term that is written of what is read, or what is wrong.
@@ -23,7 +20,7 @@ pub fn told(heap: Global, text: &str, most: usize) -> Result<String, AllocError>
     let mut words = Vec::new(heap);
     match read_term(heap, text.as_bytes(), &marks, most, &mut words) {
         Err(Fault::Wrong { place, mistake }) => format!(in heap; "{place}: {mistake}"),
-        Err(Fault::Memory) => Err(AllocError),
+        Err(Fault::Memory(error)) => Err(error),
         Ok(()) => written(heap, &words, 100),
     }
 }
@@ -34,7 +31,7 @@ pub fn written(heap: Global, words: &[u32], most: usize) -> Result<String, Alloc
     let mut text = Vec::new(heap);
     match write_term(heap, words, &marks, most, &mut text) {
         Ok(()) => String::from_utf8_lossy(heap, &text),
-        Err(Unwritten::Memory) => Err(AllocError),
+        Err(Unwritten::Memory(error)) => Err(error),
         Err(Unwritten::NoTree) => String::from_str(heap, "no tree"),
         Err(Unwritten::TooLong) => String::from_str(heap, "too long"),
     }

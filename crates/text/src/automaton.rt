@@ -1,6 +1,6 @@
 // The section of a type: its kinds, a rule for each kind of leaf and node, and the kinds that are wanted.
 ghost use Rattle.std.specs.Prelude.{◌<◌, ◌≤◌, length, OnOk};
-ghost use Rattle.text.specs.Progress.{left};
+ghost use Rattle.tokens.specs.Progress.{ahead};
 
 use crate::parser::Parser;
 use crate::table::{Table, crossed};
@@ -20,14 +20,12 @@ impl<'n> Automaton<'n> {
     fn new(heap: Global, marks: &'n Names, kinds: Names) -> Result<Automaton<'n>, AllocError> {
         let leaves = marks.count() as usize;
         let count = kinds.count() as usize;
-        match Table::new(heap, leaves + leaves * count * count) {
-            Ok(results) => Ok(Automaton {
-                marks,
-                kinds,
-                results,
-            }),
-            Err(error) => Err(error),
-        }
+        let results = Table::new(heap, leaves + leaves * count * count)?;
+        Ok(Automaton {
+            marks,
+            kinds,
+            results,
+        })
     }
 
     fn case_name(&self, heap: Global, case: usize) -> Result<String, AllocError> {
@@ -59,45 +57,35 @@ impl<'n> Automaton<'n> {
     }
 }
 
-impl<'a> Parser<'a> {
-    // Reads a type, writes its row behind `words`, and gives its kinds.
-    pub fn automaton(
-        &mut self,
-        keyword: Keyword,
-        marks: &Names,
-        words: &mut Vec<u32>,
-    ) -> Result<Names, Fault> {
+impl Parser<'_> {
+    // Reads a type, writes its row, and gives its kinds.
+    pub fn automaton(&mut self, keyword: Keyword, marks: &Names) -> Result<Names, Fault> {
         let kinds = self.section(keyword, Keyword::Kinds, Sort::Kind)?;
         let count = kinds.count() as usize;
-        self.reserve(marks.count() as usize * count * count, words)?;
-        let mut automaton = Automaton::new(self.heap, marks, kinds)?;
+        self.reserve(marks.count() as usize * count * count)?;
+        let mut automaton = Automaton::new(self.cursor.heap, marks, kinds)?;
         self.automaton_rules(&mut automaton)?;
-        self.automaton_end(&automaton, words)?;
-        let Automaton {
-            marks: _,
-            kinds,
-            results: _,
-        } = automaton;
-        Ok(kinds)
+        self.automaton_end(&automaton)?;
+        Ok(automaton.kinds)
     }
 
     fn automaton_rules(&mut self, automaton: &mut Automaton<'_>) -> Result<(), Fault> {
-        while self.lexer.kind() != TokenKind::Reserved(Keyword::Wanted) {
+        while self.cursor.kind() != TokenKind::Reserved(Keyword::Wanted) {
             self.automaton_rule(automaton)?;
         }
-        self.advance()
+        self.cursor.advance()
     }
 
     // `MARKS -> KIND`, or `MARKS(KINDS, KINDS) -> KIND`.
     fn automaton_rule(&mut self, automaton: &mut Automaton<'_>) -> Result<(), Fault>
-        ensures { OnOk result (left self.new < left self.old) }
+        ensures { OnOk result (ahead self.new.cursor < ahead self.old.cursor) }
     {
-        let start = self.lexer.offset();
+        let start = self.cursor.offset();
         let cases = self.cases(automaton)?;
-        self.expect(TokenKind::Arrow)?;
-        let kind = self.pick(&automaton.kinds)?;
+        self.cursor.expect(TokenKind::Arrow)?;
+        let kind = self.cursor.pick(&automaton.kinds)?;
         if let Some(clash) = automaton.results.clash(&cases) {
-            let case = automaton.case_name(self.heap, clash.case);
+            let case = automaton.case_name(self.cursor.heap, clash.case)?;
             return Err(self.given_twice(start, clash.start, case));
         }
         automaton.results.add(&cases, start, kind)?;
@@ -106,64 +94,56 @@ impl<'a> Parser<'a> {
 
     // The cases of the left side of a rule.
     fn cases(&mut self, automaton: &Automaton<'_>) -> Result<Vec<usize>, Fault>
-        ensures { OnOk result (left self.new < left self.old) }
+        ensures { OnOk result (ahead self.new.cursor < ahead self.old.cursor) }
     {
         let marks = self.choice(automaton.marks, "a rule or `wanted`")?;
-        match self.lexer.kind() {
-            TokenKind::Arrow => Ok(crossed(self.heap, 0, &[0], 1, &marks)?),
+        match self.cursor.kind() {
+            TokenKind::Arrow => Ok(crossed(self.cursor.heap, 0, &[0], 1, &marks)?),
             TokenKind::OpenParen => {
                 let (left, right) = self.pair(&automaton.kinds)?;
-                Ok(automaton.node_cases(self.heap, &marks, &left, &right)?)
+                Ok(automaton.node_cases(self.cursor.heap, &marks, &left, &right)?)
             }
-            _ => Err(self.lexer.unexpected(self.heap, "`->` or `(`")),
+            _ => Err(self.cursor.unexpected("`->` or `(`")),
         }
     }
 
     // The kinds of the parts of a node: `(KINDS, KINDS)`.
     fn pair(&mut self, kinds: &Names) -> Result<(Vec<u32>, Vec<u32>), Fault>
-        ensures { OnOk result (left self.new < left self.old) }
+        ensures { OnOk result (ahead self.new.cursor < ahead self.old.cursor) }
     {
-        self.expect(TokenKind::OpenParen)?;
+        self.cursor.expect(TokenKind::OpenParen)?;
         let left = self.choice(kinds, "a kind")?;
-        self.expect(TokenKind::Comma)?;
+        self.cursor.expect(TokenKind::Comma)?;
         let right = self.choice(kinds, "a kind")?;
-        self.expect(TokenKind::CloseParen)?;
+        self.cursor.expect(TokenKind::CloseParen)?;
         Ok((left, right))
     }
 
     // Reads which kinds are wanted, and writes the row of the type.
-    fn automaton_end(
-        &mut self,
-        automaton: &Automaton<'_>,
-        words: &mut Vec<u32>,
-    ) -> Result<(), Fault> {
+    fn automaton_end(&mut self, automaton: &Automaton<'_>) -> Result<(), Fault> {
         let wanted = self.listed(&automaton.kinds, "a kind or the end of the line")?;
-        if self.lexer.kind() != TokenKind::CloseBrace {
-            return Err(self.lexer.unexpected(self.heap, "`}`"));
+        if self.cursor.kind() != TokenKind::CloseBrace {
+            return Err(self.cursor.unexpected(TokenKind::CloseBrace));
         }
-        self.automaton_row(automaton, &wanted, words)?;
-        self.advance()
+        self.automaton_row(automaton, &wanted)?;
+        self.cursor.advance()
     }
 
     // Writes the number of kinds, the kind of each case, and the number of wanted kinds and these.
-    fn automaton_row(
-        &self,
-        automaton: &Automaton<'_>,
-        wanted: &[u32],
-        words: &mut Vec<u32>,
-    ) -> Result<(), Fault>
+    fn automaton_row(&mut self, automaton: &Automaton<'_>, wanted: &[u32]) -> Result<(), Fault>
         requires { length wanted.now ≤ 64 }
     {
-        words.push(automaton.kinds.count())?;
+        self.words.push(automaton.kinds.count())?;
+        // a case is its number, which a message names
         for case in 0..automaton.results.len() {
             let Some(kind) = automaton.results.result(case) else {
-                let case = automaton.case_name(self.heap, case)?;
-                return Err(self.lexer.fault(Mistake::CaseMissing { case }));
+                let case = automaton.case_name(self.cursor.heap, case)?;
+                return Err(self.cursor.fault(Mistake::CaseMissing { case }));
             };
-            words.push(*kind)?;
+            self.words.push(*kind)?;
         }
-        words.push(wanted.len() as u32)?;
-        words.extend_from_slice(wanted)?;
+        self.words.push(wanted.len() as u32)?;
+        self.words.extend_from_slice(wanted)?;
         Ok(())
     }
 }

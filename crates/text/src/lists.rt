@@ -1,93 +1,86 @@
 // Lists of names. One behind a keyword ends with its line; one in the left side of a rule has `|` between its names.
 ghost use Rattle.std.specs.Prelude.{◌≡◌, ◌+◌, ◌<◌, ◌≤◌, IfOk, vec_len, OnOk};
-ghost use Rattle.text.specs.Progress.{left};
+ghost use Rattle.tokens.specs.Progress.{ahead};
 
 use crate::parser::Parser;
-use std::alloc::{AllocError, Global};
-use tokens::{Fault, Keyword, MOST, Mistake, Names, Sort, TokenKind, position, shown};
+use tokens::{Fault, Keyword, MOST, Mistake, Names, Sort, TokenKind};
 
-fn all(heap: Global, names: &Names) -> Result<Vec<u32>, AllocError> {
-    let mut indices = Vec::new(heap);
-    for index in 0..names.count() {
-        indices.push(index)?;
-    }
-    Ok(indices)
-}
-
-impl<'a> Parser<'a> {
+impl Parser<'_> {
     // The beginning of a section: its keyword, a brace, and the things that it declares.
     pub fn section(
         &mut self,
         keyword: Keyword,
         declares: Keyword,
         sort: Sort,
-    ) -> Result<Names, Fault> {
-        self.expect(TokenKind::Reserved(keyword))?;
-        self.expect(TokenKind::OpenBrace)?;
+    ) -> Result<Names, Fault>
+        ensures { IfOk result (λ names. names.sort ≡ sort) }
+    {
+        self.cursor.expect(TokenKind::Reserved(keyword))?;
+        self.cursor.expect(TokenKind::OpenBrace)?;
         self.declared(declares, sort)
     }
 
     // The things that a keyword declares: their number, or their names.
-    pub fn declared(&mut self, keyword: Keyword, sort: Sort) -> Result<Names, Fault> {
-        self.expect(TokenKind::Reserved(keyword))?;
-        match self.lexer.kind() {
-            TokenKind::Number(count) if !self.lexer.starts_line() => self.numbered(count, sort),
+    pub fn declared(&mut self, keyword: Keyword, sort: Sort) -> Result<Names, Fault>
+        ensures { IfOk result (λ names. names.sort ≡ sort) }
+    {
+        self.cursor.expect(TokenKind::Reserved(keyword))?;
+        match self.cursor.kind() {
+            TokenKind::Number(count) if !self.cursor.starts_line() => self.numbered(count, sort),
             _ => self.named(sort),
         }
     }
 
     fn end_line(&self, expected: &'static str) -> Result<(), Fault> {
-        if self.lexer.starts_line() {
+        if self.cursor.starts_line() {
             Ok(())
         } else {
-            Err(self.lexer.unexpected(self.heap, expected))
+            Err(self.cursor.unexpected(expected))
         }
     }
 
-    fn numbered(&mut self, count: u32, sort: Sort) -> Result<Names, Fault> {
-        match Names::numbered(self.heap, sort, count) {
-            Some(names) => {
-                self.advance()?;
-                self.end_line("the end of the line")?;
-                Ok(names)
-            }
-            None => Err(self.lexer.fault(Mistake::Count { sort })),
-        }
+    fn numbered(&mut self, count: u32, sort: Sort) -> Result<Names, Fault>
+        ensures { IfOk result (λ names. names.sort ≡ sort) }
+    {
+        let names = Names::numbered(sort, count).ok_or_else(|| self
+            .cursor
+            .fault(Mistake::Count { sort }))?;
+        self.cursor.advance()?;
+        self.end_line("the end of the line")?;
+        Ok(names)
     }
 
-    fn named(&mut self, sort: Sort) -> Result<Names, Fault> {
-        let mut names = Vec::new(self.heap);
-        while self.lexer.kind() == TokenKind::Name && !self.lexer.starts_line() {
+    fn named(&mut self, sort: Sort) -> Result<Names, Fault>
+        ensures { IfOk result (λ names. names.sort ≡ sort) }
+    {
+        let mut names = Vec::new(self.cursor.heap);
+        while self.cursor.kind() == TokenKind::Name && !self.cursor.starts_line() {
             self.declare(&mut names, sort)?;
         }
         if names.is_empty() {
             return Err(
-                self.lexer
-                    .unexpected(self.heap, "a number or a name on the same line"),
+                self.cursor
+                    .unexpected("a number or a name on the same line"),
             );
         }
         self.end_line("a name or the end of the line")?;
-        match Names::named(sort, names) {
-            Some(names) => Ok(names),
-            None => Err(self.lexer.fault(Mistake::Count { sort })),
-        }
+        Names::named(sort, names).ok_or_else(|| self.cursor.fault(Mistake::Count { sort }))
     }
 
     // Adds the token, a name, to those before it.
     fn declare(&mut self, names: &mut Vec<String>, sort: Sort) -> Result<(), Fault>
-        ensures { OnOk result (left self.new < left self.old) }
+        ensures { OnOk result (ahead self.new.cursor < ahead self.old.cursor) }
     {
-        let word = self.lexer.word();
-        let name = shown(self.heap, word)?;
+        let lexeme = self.cursor.lexeme();
+        let name = self.cursor.shown(lexeme)?;
         if names.len() >= MOST as usize {
-            return Err(self.lexer.fault(Mistake::Count { sort }));
+            return Err(self.cursor.fault(Mistake::Count { sort }));
         }
-        if position(names.as_slice(), word).is_some() {
-            return Err(self.lexer.fault(Mistake::NameTwice { sort, name }));
+        if names.iter().any(|other| other.as_bytes() == lexeme) {
+            return Err(self.cursor.fault(Mistake::NameTwice { sort, name }));
         }
         names.push(name)?;
-        self.advance()?;
-        Ok(())
+        self.cursor.advance()
     }
 
     // One thing more, which is not yet among those that are listed.
@@ -97,20 +90,16 @@ impl<'a> Parser<'a> {
         names: &Names,
         expected: &'static str,
     ) -> Result<(), Fault>
-        ensures { OnOk result ((left self.new < left self.old) × (vec_len chosen.new ≡ vec_len chosen.old + 1)) }
+        ensures { OnOk result ((ahead self.new.cursor < ahead self.old.cursor) × (vec_len chosen.new ≡ vec_len chosen.old + 1)) }
     {
-        let word = self.word(expected)?;
-        let index = word.resolve(self.heap, &self.lexer, names)?;
+        let word = self.cursor.word(expected)?;
+        let index = word.resolve(&self.cursor, names)?;
         if chosen.contains(&index) {
-            let name = shown(self.heap, word.text)?;
+            let sort = names.sort();
+            let name = self.cursor.shown(word.text)?;
             return Err(
-                self.lexer.fault_at(
-                    word.offset,
-                    Mistake::NameTwice {
-                        sort: names.sort(),
-                        name,
-                    },
-                ),
+                self.cursor
+                    .fault_at(word.offset, Mistake::NameTwice { sort, name }),
             );
         }
         chosen.push(index)?;
@@ -121,9 +110,9 @@ impl<'a> Parser<'a> {
     pub fn listed(&mut self, names: &Names, expected: &'static str) -> Result<Vec<u32>, Fault>
         ensures { IfOk result (λ chosen. vec_len chosen ≤ names.now.count) }
     {
-        let mut chosen = Vec::new(self.heap);
+        let mut chosen = Vec::new(self.cursor.heap);
         let count = names.count() as usize;
-        while !self.lexer.starts_line() && chosen.len() < count {
+        while !self.cursor.starts_line() && chosen.len() < count {
             self.choose(&mut chosen, names, expected)?;
         }
         self.end_line("the end of the line")?;
@@ -132,16 +121,16 @@ impl<'a> Parser<'a> {
 
     // A place in the left side of a rule: `_` for all, or one or more with `|` between them.
     pub fn choice(&mut self, names: &Names, expected: &'static str) -> Result<Vec<u32>, Fault>
-        ensures { OnOk result (left self.new < left self.old) }
+        ensures { OnOk result (ahead self.new.cursor < ahead self.old.cursor) }
     {
-        if self.lexer.kind() == TokenKind::Underscore {
-            self.advance()?;
-            return Ok(all(self.heap, names)?);
+        if self.cursor.kind() == TokenKind::Underscore {
+            self.cursor.advance()?;
+            return Ok((0..names.count()).collect(self.cursor.heap)?);
         }
-        let mut chosen = Vec::new(self.heap);
+        let mut chosen = Vec::new(self.cursor.heap);
         self.choose(&mut chosen, names, expected)?;
-        while self.lexer.kind() == TokenKind::Bar {
-            self.advance()?;
+        while self.cursor.kind() == TokenKind::Bar {
+            self.cursor.advance()?;
             self.choose(&mut chosen, names, expected)?;
         }
         Ok(chosen)

@@ -3,7 +3,7 @@ ghost use Rattle.std.specs.Prelude.{◌≤◌, IfOk, vec_len};
 
 use crate::parser::Parser;
 use std::alloc::Global;
-use tokens::{Fault, Keyword, Mistake, Names, Sort, TokenKind, shown};
+use tokens::{Fault, Keyword, Mistake, Names, Sort};
 
 // A job: what its words say, and what its marks, kinds and states are called.
 #[derive(Drop)]
@@ -17,38 +17,26 @@ pub struct Job {
     pub words: Vec<u32>,
 }
 
-fn expect_end(parser: &Parser<'_>) -> Result<(), Fault> {
-    match parser.lexer.kind() {
-        TokenKind::End => Ok(()),
-        TokenKind::Strange => Err(parser.lexer.unexpected(parser.heap, "the end of the text")),
-        _ => {
-            let found = shown(parser.heap, parser.lexer.word())?;
-            Err(parser.lexer.fault(Mistake::Behind { found }))
-        }
-    }
-}
-
 // Reads a job of at most `most` words. What is needed to read it is of the size of the text and of `most`.
 pub fn read_job_within(heap: Global, text: &str, most: usize) -> Result<Job, Fault>
     ensures { IfOk result (λ job. vec_len job.words ≤ most) }
 {
     let mut parser = Parser::new(heap, text, most);
-    let mut words = Vec::new(heap);
     let marks = parser.declared(Keyword::Marks, Sort::Mark)?;
-    words.push(marks.count())?;
-    let from = parser.automaton(Keyword::From, &marks, &mut words)?;
-    let states = parser.transducer(&marks, &mut words)?;
-    let to = parser.automaton(Keyword::To, &marks, &mut words)?;
-    expect_end(&parser)?;
-    if words.len() > most {
-        return Err(parser.lexer.fault(Mistake::TooLong { most }));
+    parser.words.push(marks.count())?;
+    let from = parser.automaton(Keyword::From, &marks)?;
+    let states = parser.transducer(&marks)?;
+    let to = parser.automaton(Keyword::To, &marks)?;
+    parser.cursor.expect_end()?;
+    if parser.words.len() > most {
+        return Err(parser.cursor.fault(Mistake::TooLong { most }));
     }
     Ok(Job {
         marks,
         from,
         states,
         to,
-        words,
+        words: parser.words,
     })
 }
 

@@ -1,4 +1,7 @@
 // The rules for the leaves, or for the nodes, of a section, and which of them gives each case.
+ghost use Rattle.std.specs.Prelude.{◌≡◌, ◌<◌, vec_len, IfOk, IfSome, OnSome, Contains};
+ghost use Rattle.text.specs.Crossing.{all_cases};
+
 use std::alloc::{AllocError, Global};
 
 #[derive(Drop)]
@@ -11,7 +14,7 @@ struct Rule<T> {
 #[derive(Drop)]
 pub struct Table<T> {
     rules: Vec<Rule<T>>,
-    // By case, the index of its rule.
+    // By case, the index of its rule: one rule may give many cases.
     given: Vec<Option<usize>>,
 }
 
@@ -23,7 +26,9 @@ pub struct Clash {
 }
 
 impl<T: Drop> Table<T> {
-    pub fn new(heap: Global, cases: usize) -> Result<Table<T>, AllocError> {
+    pub fn new(heap: Global, cases: usize) -> Result<Table<T>, AllocError>
+        ensures { IfOk result (λ table. vec_len table.given ≡ cases) }
+    {
         let given = vec![in heap; None; cases]?;
         Ok(Table {
             rules: Vec::new(heap),
@@ -31,38 +36,44 @@ impl<T: Drop> Table<T> {
         })
     }
 
-    pub fn len(&self) -> usize {
+    pub fn len(&self) -> usize
+        ensures { result ≡ vec_len self.now.given }
+    {
         self.given.len()
     }
 
+    fn rule(&self, case: usize) -> Option<&Rule<T>>
+        ensures { OnSome result (case < vec_len self.now.given) }
+    {
+        let index = self.given.get(case).copied().flatten()?;
+        self.rules.get(index)
+    }
+
     // What the rule of a case gives, if the case has one.
-    pub fn result(&self, case: usize) -> Option<&T> {
-        let Some(Some(rule)) = self.given.get(case) else {
-            return None;
-        };
-        match self.rules.get(*rule) {
-            Some(rule) => Some(&rule.result),
-            None => None,
-        }
+    pub fn result(&self, case: usize) -> Option<&T>
+        ensures { OnSome result (case < vec_len self.now.given) }
+    {
+        self.rule(case).map(|rule| &rule.result)
     }
 
     // The first of the cases that has a rule already.
-    pub fn clash(&self, cases: &[usize]) -> Option<Clash> {
-        for case in cases {
-            if let Some(Some(rule)) = self.given.get(*case) {
-                let start = match self.rules.get(*rule) {
-                    Some(rule) => rule.start,
-                    None => 0,
-                };
-                return Some(Clash { case: *case, start });
-            }
-        }
-        None
+    pub fn clash(&self, cases: &[usize]) -> Option<Clash>
+        ensures { IfSome result (λ clash. Contains cases.now clash.case) }
+    {
+        cases.iter().find_map(|case| {
+            self.rule(*case).map(|rule| Clash {
+                case: *case,
+                start: rule.start,
+            })
+        })
     }
 
-    pub fn add(&mut self, cases: &[usize], start: usize, res: T) -> Result<(), AllocError> {
+    pub fn add(&mut self, cases: &[usize], start: usize, res: T) -> Result<(), AllocError>
+        ensures { vec_len self.new.given ≡ vec_len self.old.given }
+    {
         let index = self.rules.len();
         self.rules.push(Rule { start, result: res })?;
+        // cases name places in any order, so there is no slice to go over
         for case in cases {
             if let Some(rule) = self.given.get_mut(*case) {
                 *rule = Some(index);
@@ -72,14 +83,6 @@ impl<T: Drop> Table<T> {
     }
 }
 
-// Adds `first + choice` for each choice.
-fn extend(cases: &mut Vec<usize>, first: usize, choices: &[u32]) -> Result<(), AllocError> {
-    for choice in choices {
-        cases.push(first.saturating_add(*choice as usize))?;
-    }
-    Ok(())
-}
-
 // The cases from `first` on that are counted by a row and a column, of which there are `width`.
 pub fn crossed(
     heap: Global,
@@ -87,14 +90,16 @@ pub fn crossed(
     rows: &[usize],
     width: usize,
     columns: &[u32],
-) -> Result<Vec<usize>, AllocError> {
-    let mut cases = Vec::new(heap);
-    for row in rows {
-        extend(
-            &mut cases,
-            row.saturating_mul(width).saturating_add(first),
-            columns,
-        )?;
-    }
-    Ok(cases)
+) -> Result<Vec<usize>, AllocError>
+    ensures { IfOk result (λ cases. cases.items ≡ all_cases first width rows.now columns.now) }
+{
+    rows.iter()
+        .flat_map(|row| {
+            columns.iter().map(move |column| {
+                row.saturating_mul(width)
+                    .saturating_add(first)
+                    .saturating_add(*column as usize)
+            })
+        })
+        .collect(heap)
 }

@@ -1,21 +1,30 @@
 // The section of a turn: its states, and for each state and mark a pattern for leaves and one for nodes.
 ghost use Rattle.std.specs.Prelude.{◌<◌, ◌≤◌, OnOk};
-ghost use Rattle.text.specs.Progress.{left};
+ghost use Rattle.tokens.specs.Progress.{ahead};
 
 use crate::parser::Parser;
 use crate::table::{Table, crossed};
 use std::alloc::{AllocError, Global};
 use tokens::{Fault, Keyword, Mistake, Names, Sort, TokenKind, Word};
 
-// A pattern is at most so deep; a leaf is 1 deep.
+// A pattern is at most so deep; a leaf is 1 deep. (`rows` has its own limit: it checks words, and a text has a place to tell.)
 const DEEPEST: u32 = 64;
 
-// What the words of a pattern's row are made from.
+// A part of a node, by its number in a row. (`rows` has one that it reads from words; texts don't stand on it.)
+#[derive(Clone, Copy)]
+enum Side {
+    Left = 0,
+    Right = 1,
+}
+
+// What a pattern is made from, in the order of its row.
 #[derive(Clone, Copy)]
 enum Piece {
-    Word(u32),
-    // The mark of the case, which the rule has as `_`.
-    SameMark,
+    // A leaf, or a node before its parts, with its mark, or with that of the case where the rule has `_`.
+    Leaf(Option<u32>),
+    Node(Option<u32>),
+    // What a state makes of a part.
+    Part { state: u32, side: Side },
 }
 
 // What the names in a pattern stand for.
@@ -72,41 +81,26 @@ impl Transducer<'_> {
     }
 }
 
-// Writes a pattern for a case with the mark.
-fn write_pattern(pattern: &[Piece], mark: u32, words: &mut Vec<u32>) -> Result<(), AllocError> {
-    for piece in pattern {
-        match piece {
-            Piece::Word(word) => words.push(*word)?,
-            Piece::SameMark => words.push(mark)?,
-        }
-    }
-    Ok(())
-}
-
-impl<'a> Parser<'a> {
-    // Reads a turn, writes its row behind `words`, and gives its states.
-    pub fn transducer(&mut self, marks: &Names, words: &mut Vec<u32>) -> Result<Names, Fault> {
+impl<'t> Parser<'t> {
+    // Reads a turn, writes its row, and gives its states.
+    pub fn transducer(&mut self, marks: &Names) -> Result<Names, Fault> {
         let states = self.section(Keyword::Turn, Keyword::States, Sort::State)?;
         let leaves = states.count() as usize * marks.count() as usize;
-        let patterns = Table::new(self.heap, 2 * leaves)?;
+        let patterns = Table::new(self.cursor.heap, 2 * leaves)?;
         let mut transducer = Transducer {
             marks,
             states,
             patterns,
         };
         self.transducer_rules(&mut transducer)?;
-        self.transducer_row(&transducer, words)?;
-        self.advance()?;
-        let Transducer {
-            marks: _,
-            states,
-            patterns: _,
-        } = transducer;
-        Ok(states)
+        self.transducer_row(&transducer)?;
+        self.cursor.advance()?;
+        Ok(transducer.states)
     }
 
+    // (The section of a type has such a loop too: the rules differ in all but that they end.)
     fn transducer_rules(&mut self, transducer: &mut Transducer<'_>) -> Result<(), Fault> {
-        while self.lexer.kind() != TokenKind::CloseBrace {
+        while self.cursor.kind() != TokenKind::CloseBrace {
             self.transducer_rule(transducer)?;
         }
         Ok(())
@@ -114,20 +108,20 @@ impl<'a> Parser<'a> {
 
     // `STATES(MARKS) -> PATTERN`, or `STATES(MARKS(left, right)) -> PATTERN`.
     fn transducer_rule(&mut self, transducer: &mut Transducer<'_>) -> Result<(), Fault>
-        ensures { OnOk result (left self.new < left self.old) }
+        ensures { OnOk result (ahead self.new.cursor < ahead self.old.cursor) }
     {
-        let start = self.lexer.offset();
+        let start = self.cursor.offset();
         let side = self.left_side(transducer)?;
-        let mut pattern = Vec::new(self.heap);
+        let mut pattern = Vec::new(self.cursor.heap);
         let scope = Scope {
             marks: transducer.marks,
             states: &transducer.states,
             is_node: side.is_node,
         };
         self.pattern(scope, DEEPEST, &mut pattern)?;
-        let cases = transducer.cases(self.heap, &side)?;
+        let cases = transducer.cases(self.cursor.heap, &side)?;
         if let Some(clash) = transducer.patterns.clash(&cases) {
-            let case = transducer.case_name(self.heap, clash.case);
+            let case = transducer.case_name(self.cursor.heap, clash.case)?;
             return Err(self.given_twice(start, clash.start, case));
         }
         transducer.patterns.add(&cases, start, pattern)?;
@@ -136,14 +130,14 @@ impl<'a> Parser<'a> {
 
     // The left side of a rule, with the arrow.
     fn left_side(&mut self, transducer: &Transducer<'_>) -> Result<LeftSide, Fault>
-        ensures { OnOk result (left self.new < left self.old) }
+        ensures { OnOk result (ahead self.new.cursor < ahead self.old.cursor) }
     {
         let states = self.choice(&transducer.states, "a rule or `}`")?;
-        self.expect(TokenKind::OpenParen)?;
+        self.cursor.expect(TokenKind::OpenParen)?;
         let marks = self.choice(transducer.marks, "a mark")?;
         let is_node = self.parts()?;
-        self.expect(TokenKind::CloseParen)?;
-        self.expect(TokenKind::Arrow)?;
+        self.cursor.expect(TokenKind::CloseParen)?;
+        self.cursor.expect(TokenKind::Arrow)?;
         Ok(LeftSide {
             states,
             marks,
@@ -151,51 +145,40 @@ impl<'a> Parser<'a> {
         })
     }
 
-    // Whether `(left, right)` stands here, which is then read.
+    // Whether `(left, right)` stands here, which is then read. The answer is what was asked, not how the reading went.
     fn parts(&mut self) -> Result<bool, Fault>
-        ensures { OnOk result (left self.new ≤ left self.old) }
+        ensures { OnOk result (ahead self.new.cursor ≤ ahead self.old.cursor) }
     {
-        match self.lexer.kind() {
+        match self.cursor.kind() {
             TokenKind::CloseParen => Ok(false),
             TokenKind::OpenParen => {
-                self.advance()?;
-                self.expect(TokenKind::Reserved(Keyword::Left))?;
-                self.expect(TokenKind::Comma)?;
-                self.expect(TokenKind::Reserved(Keyword::Right))?;
-                self.expect(TokenKind::CloseParen)?;
+                self.cursor.advance()?;
+                self.cursor.expect(TokenKind::Reserved(Keyword::Left))?;
+                self.cursor.expect(TokenKind::Comma)?;
+                self.cursor.expect(TokenKind::Reserved(Keyword::Right))?;
+                self.cursor.expect(TokenKind::CloseParen)?;
                 Ok(true)
             }
-            _ => Err(self.lexer.unexpected(self.heap, "`(` or `)`")),
+            _ => Err(self.cursor.unexpected("`(` or `)`")),
         }
     }
 
     // The name or number that a pattern begins with, or none for `_`.
-    fn head(&mut self) -> Result<Option<Word<'a>>, Fault>
-        ensures { OnOk result (left self.new < left self.old) }
+    fn head(&mut self) -> Result<Option<Word<'t>>, Fault>
+        ensures { OnOk result (ahead self.new.cursor < ahead self.old.cursor) }
     {
-        if self.lexer.kind() == TokenKind::Underscore {
-            self.advance()?;
+        if self.cursor.kind() == TokenKind::Underscore {
+            self.cursor.advance()?;
             return Ok(None);
         }
-        let word = self.word("a pattern")?;
+        let word = self.cursor.word("a pattern")?;
         Ok(Some(word))
     }
 
-    // Writes what a leaf or a node begins with: which of the two it is, and its mark.
-    fn mark(
-        &self,
-        tag: u32,
-        head: Option<Word<'a>>,
-        marks: &Names,
-        pattern: &mut Vec<Piece>,
-    ) -> Result<(), Fault> {
-        let mark = match head {
-            Some(word) => Piece::Word(word.resolve(self.heap, &self.lexer, marks)?),
-            None => Piece::SameMark,
-        };
-        pattern.push(Piece::Word(tag))?;
-        pattern.push(mark)?;
-        Ok(())
+    // The mark of a leaf or a node, or none for that of the case.
+    fn mark(&self, head: Option<Word<'t>>, marks: &Names) -> Result<Option<u32>, Fault> {
+        head.map(|word| word.resolve(&self.cursor, marks))
+            .transpose()
     }
 
     // Reads a pattern that may be `depth_left` deep, and writes its pieces behind `pattern`.
@@ -205,32 +188,35 @@ impl<'a> Parser<'a> {
         depth_left: u32,
         pattern: &mut Vec<Piece>,
     ) -> Result<(), Fault>
-        ensures { OnOk result (left self.new < left self.old) }
+        ensures { OnOk result (ahead self.new.cursor < ahead self.old.cursor) }
     {
         if depth_left == 0 {
-            return Err(self.lexer.fault(Mistake::Deep));
+            return Err(self.cursor.fault(Mistake::Deep));
         }
         let head = self.head()?;
-        if self.lexer.kind() != TokenKind::OpenParen {
-            return self.mark(0, head, scope.marks, pattern);
+        if self.cursor.kind() != TokenKind::OpenParen {
+            let mark = self.mark(head, scope.marks)?;
+            pattern.push(Piece::Leaf(mark))?;
+            return Ok(());
         }
-        self.advance()?;
+        self.cursor.advance()?;
         if let Some(side) = self.side() {
             self.part(head, side, scope, pattern)?;
         } else {
-            self.mark(1, head, scope.marks, pattern)?;
+            let mark = self.mark(head, scope.marks)?;
+            pattern.push(Piece::Node(mark))?;
             self.pattern(scope, depth_left - 1, pattern)?;
-            self.expect(TokenKind::Comma)?;
+            self.cursor.expect(TokenKind::Comma)?;
             self.pattern(scope, depth_left - 1, pattern)?;
         }
-        self.expect(TokenKind::CloseParen)
+        self.cursor.expect(TokenKind::CloseParen)
     }
 
     // Which part the token names.
-    fn side(&self) -> Option<u32> {
-        match self.lexer.kind() {
-            TokenKind::Reserved(Keyword::Left) => Some(0),
-            TokenKind::Reserved(Keyword::Right) => Some(1),
+    fn side(&self) -> Option<Side> {
+        match self.cursor.kind() {
+            TokenKind::Reserved(Keyword::Left) => Some(Side::Left),
+            TokenKind::Reserved(Keyword::Right) => Some(Side::Right),
             _ => None,
         }
     }
@@ -238,41 +224,47 @@ impl<'a> Parser<'a> {
     // What a state makes of a part, whose side is the token.
     fn part(
         &mut self,
-        head: Option<Word<'a>>,
-        side: u32,
+        head: Option<Word<'t>>,
+        side: Side,
         scope: Scope<'_>,
         pattern: &mut Vec<Piece>,
     ) -> Result<(), Fault>
-        ensures { OnOk result (left self.new < left self.old) }
+        ensures { OnOk result (ahead self.new.cursor < ahead self.old.cursor) }
     {
         let Some(word) = head else {
-            return Err(self.lexer.unexpected(self.heap, "a pattern"));
+            return Err(self.cursor.unexpected("a pattern"));
         };
         if !scope.is_node {
-            return Err(self.lexer.fault_at(word.offset, Mistake::PartOfLeaf));
+            return Err(self.cursor.fault_at(word.offset, Mistake::PartOfLeaf));
         }
-        let state = word.resolve(self.heap, &self.lexer, scope.states)?;
-        pattern.push(Piece::Word(2))?;
-        pattern.push(Piece::Word(state))?;
-        pattern.push(Piece::Word(side))?;
-        self.advance()
+        let state = word.resolve(&self.cursor, scope.states)?;
+        pattern.push(Piece::Part { state, side })?;
+        self.cursor.advance()
+    }
+
+    // Writes a pattern for a case with the mark.
+    fn pattern_row(&mut self, pattern: &[Piece], mark: u32) -> Result<(), Fault> {
+        for piece in pattern {
+            match piece {
+                Piece::Leaf(own) => self.put(&[0, own.unwrap_or(mark)])?,
+                Piece::Node(own) => self.put(&[1, own.unwrap_or(mark)])?,
+                Piece::Part { state, side } => self.put(&[2, *state, *side as u32])?,
+            }
+        }
+        Ok(())
     }
 
     // Writes the number of states and the pattern of each case.
-    fn transducer_row(
-        &self,
-        transducer: &Transducer<'_>,
-        words: &mut Vec<u32>,
-    ) -> Result<(), Fault> {
-        words.push(transducer.states.count())?;
+    fn transducer_row(&mut self, transducer: &Transducer<'_>) -> Result<(), Fault> {
+        self.words.push(transducer.states.count())?;
         let count = transducer.marks.count() as usize;
+        // a case is its number, which a message names and whose mark is worked out from it
         for case in 0..transducer.patterns.len() {
             let Some(pattern) = transducer.patterns.result(case) else {
-                let case = transducer.case_name(self.heap, case)?;
-                return Err(self.lexer.fault(Mistake::CaseMissing { case }));
+                let case = transducer.case_name(self.cursor.heap, case)?;
+                return Err(self.cursor.fault(Mistake::CaseMissing { case }));
             };
-            self.reserve(pattern.len(), words)?;
-            write_pattern(pattern, (case % count) as u32, words)?;
+            self.pattern_row(pattern, (case % count) as u32)?;
         }
         Ok(())
     }

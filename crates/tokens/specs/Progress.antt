@@ -1,7 +1,7 @@
--- How much of a text a lexer has yet to read. Assumes nothing.
+-- How much of a text a cursor has yet to read. Assumes nothing.
 use Rattle.std.specs.Prelude.{ℕ, length}
-use Rattle.tokens.specs.declared.lexer.Lexer.{Lexer}
+use Rattle.tokens.specs.declared.cursor.Cursor.{Cursor}
 
 -- the bytes from the token on
-abbrev pub ahead : Lexer → ℕ
+abbrev pub ahead : Cursor → ℕ
 ahead x = length x.rest.now

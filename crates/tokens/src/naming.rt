@@ -1,10 +1,10 @@
 // The names of the marks, kinds or states of a job.
-ghost use Rattle.std.specs.Prelude.{◌≡◌, ◌<◌, ◌≤◌, length, IfSome, vec_len};
+ghost use Rattle.std.specs.Prelude.{◌≡◌, ◌<◌, ◌≤◌, IfSome, vec_len};
 
 use crate::mistakes::Sort;
 use std::alloc::{AllocError, Global};
 
-// There are at most so many marks, kinds and states.
+// There are at most so many marks, kinds and states. (`rows` has limits of its own: it checks words, and a text has a place to tell.)
 pub const MOST: u32 = 64;
 
 // 1 to 64 things, counted from 0. They have names, or are written as numbers.
@@ -12,51 +12,48 @@ pub const MOST: u32 = 64;
 pub struct Names {
     sort: Sort,
     count: u32,
-    // The names in order, or none where the things are written as numbers.
-    names: Vec<String>,
+    // The names in order; none where the things are written as numbers.
+    names: Option<Vec<String>>,
     ghost some: { 1 ≤ count },
     ghost few: { count ≤ 64 },
-    ghost named: { vec_len names ≤ count },
-}
-
-// The place of a name in a list.
-pub fn position(names: &[String], name: &[u8]) -> Option<usize>
-    ensures { IfSome result (λ i. i < length names.now) }
-{
-    for (i, other) in names.iter().enumerate() {
-        if other.as_bytes() == name {
-            return Some(i);
-        }
-    }
-    None
+    ghost named: { ∥ IfSome names (λ all. vec_len all ≡ count) ∥₁ },
 }
 
 impl Names {
     // So many things without names, if there may be so many.
-    pub fn numbered(heap: Global, sort: Sort, count: u32) -> Option<Names> {
-        if count < 1 || MOST < count {
+    pub fn numbered(sort: Sort, count: u32) -> Option<Names>
+        ensures sort { IfSome result (λ names. names.sort ≡ sort) }
+        ensures count { IfSome result (λ names. names.count ≡ count) }
+    {
+        if !(1..=MOST).contains(&count) {
             return None;
         }
         Some(Names {
             sort,
             count,
-            names: Vec::new(heap),
+            names: None,
         })
     }
 
-    pub fn named(sort: Sort, names: Vec<String>) -> Option<Names> {
-        let len = names.len();
-        if len < 1 || len > MOST as usize {
+    // Things with these names, if there may be so many.
+    pub fn named(sort: Sort, names: Vec<String>) -> Option<Names>
+        ensures sort { IfSome result (λ all. all.sort ≡ sort) }
+        ensures count { IfSome result (λ all. all.count ≡ vec_len names) }
+    {
+        let count = u32::try_from(names.len()).ok()?;
+        if !(1..=MOST).contains(&count) {
             return None;
         }
         Some(Names {
             sort,
-            count: len as u32,
-            names,
+            count,
+            names: Some(names),
         })
     }
 
-    pub fn sort(&self) -> Sort {
+    pub fn sort(&self) -> Sort
+        ensures { result ≡ self.now.sort }
+    {
         self.sort
     }
 
@@ -71,15 +68,16 @@ impl Names {
     pub fn find(&self, name: &[u8]) -> Option<u32>
         ensures { IfSome result (λ i. i < self.now.count) }
     {
-        match position(self.names.as_slice(), name) {
-            Some(i) => Some(i as u32),
-            None => None,
-        }
+        let names = self.names.as_ref()?;
+        names
+            .iter()
+            .position(|other| other.as_bytes() == name)
+            .map(|i| i as u32)
     }
 
     // The name of a thing, or its number.
     pub fn name(&self, heap: Global, index: usize) -> Result<String, AllocError> {
-        match self.names.get(index) {
+        match self.names.as_ref().and_then(|names| names.get(index)) {
             Some(name) => name.clone(),
             None => format!(in heap; "{index}"),
         }

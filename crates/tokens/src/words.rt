@@ -1,62 +1,48 @@
 // Names and numbers, and what they stand for.
 ghost use Rattle.std.specs.Prelude.{◌<◌, IfOk};
 
-use crate::lexer::{Lexer, TokenKind, shown};
+use crate::cursor::Cursor;
 use crate::mistakes::{Fault, Mistake};
 use crate::naming::Names;
-use std::alloc::Global;
+use std::alloc::AllocError;
 
 // A name or a number, before it is known what it stands for.
 #[derive(Clone, Copy)]
-pub struct Word<'a> {
-    pub text: &'a [u8],
+pub struct Word<'t> {
+    pub text: &'t [u8],
     pub number: Option<u32>,
     pub offset: usize,
 }
 
-impl<'a> Word<'a> {
-    // The token, if it is a name or a number.
-    pub fn at(lexer: &Lexer<'a>) -> Option<Word<'a>> {
-        let number = match lexer.kind() {
-            TokenKind::Name => None,
-            TokenKind::Number(number) => Some(number),
-            _ => return None,
-        };
-        Some(Word {
-            text: lexer.word(),
-            number,
-            offset: lexer.offset(),
-        })
-    }
-
+impl Word<'_> {
     // The thing that the word stands for.
-    pub fn resolve(&self, heap: Global, lexer: &Lexer<'a>, names: &Names) -> Result<u32, Fault>
+    pub fn resolve(&self, cursor: &Cursor<'_>, names: &Names) -> Result<u32, Fault>
         ensures { IfOk result (λ i. i < names.now.count) }
     {
-        let found = match self.number {
-            Some(number) if number < names.count() => Some(number),
-            Some(_) => None,
+        match self.number {
+            Some(number) => (number < names.count()).then_some(number),
             None => names.find(self.text),
-        };
-        match found {
-            Some(index) => Ok(index),
-            None => Err(self.unresolved(heap, lexer, names)),
         }
+        .ok_or_else(|| self.unresolved(cursor, names))
     }
 
-    fn unresolved(&self, heap: Global, lexer: &Lexer<'a>, names: &Names) -> Fault {
+    fn unresolved(&self, cursor: &Cursor<'_>, names: &Names) -> Fault {
+        self.unknown(cursor, names).map_or_else(
+            Fault::from,
+            |mistake| cursor.fault_at(self.offset, mistake),
+        )
+    }
+
+    fn unknown(&self, cursor: &Cursor<'_>, names: &Names) -> Result<Mistake, AllocError> {
         let sort = names.sort();
-        let Ok(name) = shown(heap, self.text) else {
-            return Fault::Memory;
-        };
-        let mistake = match self.number {
+        let shown = cursor.shown(self.text)?;
+        Ok(match self.number {
             Some(_) => Mistake::Number {
                 sort,
-                number: name,
+                number: shown,
                 count: names.count(),
             },
-            None => Mistake::Unknown { sort, name },
-        };
-        lexer.fault_at(self.offset, mistake)
+            None => Mistake::Unknown { sort, name: shown },
+        })
     }
 }

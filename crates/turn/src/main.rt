@@ -3,14 +3,14 @@
 
 mod buffers;
 mod failure;
-mod jobs;
 mod lines;
 mod refusal;
 
-use buffers::Buffers;
+use buffers::{Buffers, LIMITS};
 use failure::{Failure, USAGE};
-use lines::{Line, Lines};
-use refusal::{Refusal, RefusedLine};
+use lines::Lines;
+use refusal::RefusedLine;
+use sources::read_job;
 use std::io::{Read, Write};
 use std::process::ExitCode;
 use std::{env, fs, io};
@@ -29,9 +29,7 @@ enum Request {
 
 fn asked(rt: &HostRuntime) -> Result<Request, Failure> {
     let mut args = env::args(rt)?.skip(1);
-    let Some(job) = args.next() else {
-        return Err(Failure::Usage);
-    };
+    let job = args.next().ok_or(Failure::Usage)?;
     if job.as_str() == "--help" {
         return Ok(Request::Help);
     }
@@ -42,75 +40,53 @@ fn asked(rt: &HostRuntime) -> Result<Request, Failure> {
     Ok(Request::Turn { job, trees })
 }
 
-// Writes the line of a result, or the line `-` and why there is none.
-fn answer(
-    rt: &HostRuntime,
-    number: u64,
-    res: Result<(), Refusal>,
-    text: &[u8],
-) -> io::Result<bool> {
+fn put(rt: &HostRuntime, line: &[u8]) -> io::Result<()> {
     let mut out = rt.stdout();
-    match res {
-        Ok(()) => {
-            out.write_all(text)?;
-            out.flush()?;
-            Ok(true)
-        }
-        Err(reason) => {
-            out.write_all(b"-\n")?;
-            out.flush()?;
-            let line = RefusedLine { number, reason };
-            eprintln!(rt; "{line}")?;
-            Ok(false)
-        }
-    }
+    out.write_all(line)?;
+    out.flush()
 }
 
-// Answers each line before it reads the next, and says whether all had a result.
-fn turn_lines<R: Read + Drop>(
-    rt: &HostRuntime,
-    job: &Job,
-    input: R,
-    buffers: &mut Buffers,
-) -> Result<bool, Failure> {
+// Answers each line before it reads the next: with its result, or with `-` and why there is none. Succeeds if all had one.
+fn turn_lines<R: Read + Drop>(rt: &HostRuntime, job: &Job, input: R) -> Result<ExitCode, Failure> {
+    let mut buffers = Buffers::new(rt.alloc())?;
     let mut lines = Lines::new(rt.alloc(), input)?;
-    let mut all = true;
+    let mut status = ExitCode::SUCCESS;
     for number in 1..u64::MAX {
-        let result = match lines.next(&mut buffers.line)? {
-            Line::End => break,
-            Line::TooLong => Err(Refusal::TooLong),
-            Line::Whole => buffers.turn(rt.alloc(), job),
+        let Some(line) = lines.next(&mut buffers.line)? else {
+            break;
         };
-        all = answer(rt, number, result, &buffers.text)? && all;
+        match line.and_then(|()| buffers.turn(rt.alloc(), job)) {
+            Ok(()) => put(rt, &buffers.text)?,
+            Err(reason) => {
+                status = ExitCode::FAILURE;
+                put(rt, b"-\n")?;
+                let line = RefusedLine { number, reason };
+                eprintln!(rt; "{line}")?;
+            }
+        }
     }
-    Ok(all)
+    Ok(status)
 }
 
-fn turn_file(rt: &HostRuntime, job: &Job, file: String) -> Result<bool, Failure> {
-    let input = match fs::open(rt, file.as_str()) {
-        Ok(input) => input,
-        Err(error) => return Err(Failure::File { file, error }),
-    };
-    let mut buffers = Buffers::new(rt.alloc())?;
-    turn_lines(rt, job, input, &mut buffers)
+fn turn_file(rt: &HostRuntime, job: &Job, file: String) -> Result<ExitCode, Failure> {
+    match fs::open(rt, file.as_str()) {
+        Ok(input) => turn_lines(rt, job, input),
+        Err(error) => Err(Failure::Trees { file, error }),
+    }
 }
 
-fn turn_input(rt: &HostRuntime, job: &Job) -> Result<bool, Failure> {
-    let mut buffers = Buffers::new(rt.alloc())?;
-    turn_lines(rt, job, rt.stdin(), &mut buffers)
-}
-
-fn run(rt: &HostRuntime) -> Result<bool, Failure> {
+fn run(rt: &HostRuntime) -> Result<ExitCode, Failure> {
     match asked(rt)? {
         Request::Help => {
             println!(rt; "{USAGE}")?;
-            Ok(true)
+            Ok(ExitCode::SUCCESS)
         }
         Request::Turn { job, trees } => {
-            let job = jobs::read(rt, job)?;
+            let mut job = read_job(rt, job, LIMITS)?;
+            job.words.shrink_to_fit();
             match trees {
                 Some(file) => turn_file(rt, &job, file),
-                None => turn_input(rt, &job),
+                None => turn_lines(rt, &job, rt.stdin()),
             }
         }
     }
@@ -118,8 +94,7 @@ fn run(rt: &HostRuntime) -> Result<bool, Failure> {
 
 fn main(rt: HostRuntime) -> ExitCode {
     match run(&rt) {
-        Ok(true) => ExitCode::SUCCESS,
-        Ok(false) => ExitCode::FAILURE,
+        Ok(status) => status,
         Err(failure) => {
             let _ = eprintln!(rt; "{failure}");
             ExitCode::FAILURE

@@ -1,24 +1,46 @@
 // Why a line has no result.
+use std::alloc::AllocError;
 use std::fmt;
-use tokens::Mistake;
+use terms::Unwritten;
+use thiserror::Error;
+use tokens::{Fault, Mistake};
+use turned::Unturned;
 
-#[derive(Drop)]
+#[derive(Debug, Drop, Error)]
 pub enum Refusal {
     // The line has more bytes than there is room for.
+    #[error("too long")]
     TooLong,
     // The line is no term.
+    #[error("{mistake}")]
     Wrong { column: usize, mistake: Mistake },
-    // The line is empty, or the words are no tree.
-    NoTree,
-    // The tree is not of the first type.
-    NotOf,
-    // The words are no job.
-    NoSuch,
-    // The result has more words, or its term more bytes, than there is room for.
-    Full,
-    // There are too few work words.
-    Small,
-    Memory,
+    #[error("not enough memory")]
+    Memory(#[from(alloc)] AllocError),
+    // The tree of the line has no result, or its term has more bytes than there is room for.
+    #[error(transparent)]
+    Unturned(#[from] Unturned),
+}
+
+impl From<Fault> for Refusal {
+    fn from(fault: Fault) -> Refusal {
+        match fault {
+            Fault::Memory(error) => Refusal::Memory(error),
+            Fault::Wrong { place, mistake } => Refusal::Wrong {
+                column: place.column,
+                mistake,
+            },
+        }
+    }
+}
+
+impl From<Unwritten> for Refusal {
+    fn from(why: Unwritten) -> Refusal {
+        match why {
+            Unwritten::Memory(error) => Refusal::Memory(error),
+            Unwritten::NoTree => Refusal::Unturned(Unturned::NoTree),
+            Unwritten::TooLong => Refusal::Unturned(Unturned::Full),
+        }
+    }
 }
 
 // A line without a result, counted from 1.
@@ -32,14 +54,8 @@ impl fmt::Display for RefusedLine {
     fn fmt<W: fmt::Write>(&self, f: &mut fmt::Formatter<W>) -> fmt::Result {
         let number = self.number;
         match &self.reason {
-            Refusal::TooLong => write!(f, "{number}: too long"),
             Refusal::Wrong { column, mistake } => write!(f, "{number}:{column}: {mistake}"),
-            Refusal::NoTree => write!(f, "{number}: no tree"),
-            Refusal::NotOf => write!(f, "{number}: not of"),
-            Refusal::NoSuch => write!(f, "{number}: no such"),
-            Refusal::Full => write!(f, "{number}: full"),
-            Refusal::Small => write!(f, "{number}: small"),
-            Refusal::Memory => write!(f, "{number}: not enough memory"),
+            reason => write!(f, "{number}: {reason}"),
         }
     }
 }

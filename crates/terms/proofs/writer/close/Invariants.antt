@@ -1,8 +1,14 @@
-use Rattle.std.proofs.Common.{◌≤◌, vec_len}
+-- That closing ends, and where: each right part that is closed leaves as many parts to
+-- come, and fewer open nodes.
+use Rattle.std.proofs.Common.{◌≡◌, length, vec_items}
+use Rattle.terms.specs.Beginnings.{to_come}
 use Rattle.terms.proofs.writer.close.Given as goal
 
 abbrev pub invariant-loop-part : goal.invariant-loop-part
-invariant-loop-part l = vec_len l.text ≤ l.most
+invariant-loop-part l = record {
+  most : l.text.most ≡ l.initial.text.most;
+  same : to_come (vec_items l.path.parts) ≡ to_come (vec_items l.initial.path.parts);
+}
 
 abbrev pub decreases-loop-part : goal.decreases-loop-part
-decreases-loop-part l = vec_len l.parents
+decreases-loop-part l = length (vec_items l.path.parts)
