@@ -4,14 +4,21 @@
 mod jobs;
 mod turns;
 
-use jobs::{SAMPLE, SWAP, Sizes, left_comb, plain_job, right_comb};
-use rows::jobs::{JobRefusal, read_job};
+use jobs::{LARGEST, SAMPLE, Sizes, left_comb, right_comb};
+use made_jobs::SWAP;
+use rows::jobs::{JobPlaces, JobRefusal, KnownJob, read_job};
 use rows::trees::read_tree;
 use std::alloc::{AllocError, Global};
 
-fn job_answer(heap: Global, job: &[u32]) -> Result<&'static str, AllocError> {
+// What the reader says of a job.
+fn read(heap: Global, job: &[u32]) -> Result<Result<JobPlaces, JobRefusal>, AllocError> {
     let mut index = vec![in heap; 0u32; job.len()]?;
-    match read_job(job, index.as_mut_slice()) {
+    Ok(read_job(job, &mut index))
+}
+
+// The same, in the words of this program's output.
+fn job_answer(heap: Global, job: &[u32]) -> Result<&'static str, AllocError> {
+    match read(heap, job)? {
         Ok(_) => Ok("a job"),
         Err(JobRefusal::NoJob) => Ok("no job"),
         Err(JobRefusal::NoRoom) => Ok("no room"),
@@ -23,17 +30,21 @@ fn tree_kind(heap: Global, job: &[u32], tree: &[u32]) -> Result<Option<u32>, All
     let mut index = vec![in heap; 0u32; job.len()]?;
     let mut ends = vec![in heap; 0u32; tree.len()]?;
     let mut kinds = vec![in heap; 0u32; tree.len()]?;
-    match read_job(job, index.as_mut_slice()) {
-        Ok(p) => Ok(read_tree(
-            job,
-            p.from,
-            p.marks,
-            tree,
-            ends.as_mut_slice(),
-            kinds.as_mut_slice(),
-        )),
-        Err(_) => Ok(None),
-    }
+    // no `?`: that the words are no job is an answer here, not an error
+    let Ok(places) = read_job(job, &mut index) else {
+        return Ok(None);
+    };
+    let known = KnownJob {
+        words: job,
+        index: &index,
+        places,
+    };
+    Ok(read_tree(
+        known.from_type(),
+        tree,
+        &mut ends,
+        &mut kinds,
+    ))
 }
 
 fn show_job(rt: &HostRuntime, name: &str, job: &[u32]) -> anyhow::Result<()> {
@@ -55,26 +66,35 @@ fn show_tree(rt: &HostRuntime, name: &str, tree: &[u32]) -> anyhow::Result<()> {
 fn beginnings(heap: Global, job: &[u32]) -> Result<u32, AllocError> {
     let mut jobs = 0u32;
     for n in 0..job.len() {
-        if job_answer(heap, &job[0..n])? == "a job" {
+        if read(heap, &job[0..n])?.is_ok() {
             jobs = jobs.saturating_add(1);
         }
     }
     Ok(jobs)
 }
 
+// Some words with others put in at a place, in the stead of `gone` words.
+fn spliced(
+    heap: Global,
+    job: &[u32],
+    at: usize,
+    gone: usize,
+    words: &[u32],
+) -> Result<Vec<u32>, AllocError> {
+    let behind = job.iter().skip(at).skip(gone);
+    job.iter()
+        .take(at)
+        .chain(words)
+        .chain(behind)
+        .copied()
+        .collect(heap)
+}
+
 // How many jobs come of a job when the word at a place is given any other value up to 70, or the largest.
-fn changed_at(heap: Global, job: &[u32], at: usize) -> Result<u32, AllocError> {
-    let mut copy = Vec::from_slice(heap, job)?;
+fn changed_at(heap: Global, job: &[u32], at: usize, word: u32) -> Result<u32, AllocError> {
     let mut jobs = 0u32;
-    let Some(word) = job.get(at).copied() else {
-        return Ok(jobs);
-    };
-    for v in 0..72u32 {
-        let v = if v == 71 { u32::MAX } else { v };
-        if let Some(place) = copy.get_mut(at) {
-            *place = v;
-        }
-        if v != word && job_answer(heap, copy.as_slice())? == "a job" {
+    for v in (0..=70).chain([u32::MAX]) {
+        if v != word && read(heap, &spliced(heap, job, at, 1, &[v])?)?.is_ok() {
             jobs = jobs.saturating_add(1);
         }
     }
@@ -83,25 +103,17 @@ fn changed_at(heap: Global, job: &[u32], at: usize) -> Result<u32, AllocError> {
 
 fn changed(heap: Global, job: &[u32]) -> Result<u32, AllocError> {
     let mut jobs = 0u32;
-    for at in 0..job.len() {
-        jobs = jobs.saturating_add(changed_at(heap, job, at)?);
+    for (at, word) in job.iter().enumerate() {
+        jobs = jobs.saturating_add(changed_at(heap, job, at, *word)?);
     }
     Ok(jobs)
 }
 
 fn show_sizes(rt: &HostRuntime, s: Sizes) -> anyhow::Result<()> {
-    let job = plain_job(rt.alloc(), s)?;
-    let answer = job_answer(rt.alloc(), job.as_slice())?;
+    let job = s.job(rt.alloc())?;
+    let answer = job_answer(rt.alloc(), &job)?;
     let words = job.len();
-    let Sizes {
-        marks,
-        kinds,
-        states,
-        depth,
-    } = s;
-    println!(rt;
-        "{marks} marks, {kinds} kinds, {states} states, {depth} deep: {words} words, {answer}"
-    )?;
+    println!(rt; "{s}: {words} words, {answer}")?;
     Ok(())
 }
 
@@ -121,44 +133,18 @@ fn limits(rt: &HostRuntime) -> anyhow::Result<()> {
     for n in [2, 64, 65] {
         show_sizes(rt, Sizes { depth: n, ..small })?;
     }
-    show_sizes(
-        rt,
-        Sizes {
-            marks: 64,
-            kinds: 64,
-            states: 64,
-            depth: 64,
-        },
-    )
-}
-
-// The worked case with some words put in between, in the place of `gone` words.
-fn swap_spliced(
-    heap: Global,
-    at: usize,
-    gone: usize,
-    words: &[u32],
-) -> Result<Vec<u32>, AllocError> {
-    let mut job = Vec::new(heap);
-    for w in SWAP.iter().take(at) {
-        job.push(*w)?;
-    }
-    job.extend_from_slice(words)?;
-    for w in SWAP.iter().skip(at).skip(gone) {
-        job.push(*w)?;
-    }
-    Ok(job)
+    show_sizes(rt, LARGEST)
 }
 
 fn bad_jobs(rt: &HostRuntime) -> anyhow::Result<()> {
     let heap = rt.alloc();
     show_job(rt, "empty", &[])?;
-    let behind = swap_spliced(heap, 48, 0, &[0])?;
-    show_job(rt, "a word behind the end", behind.as_slice())?;
-    let lists = swap_spliced(heap, 12, 1, &[u32::MAX])?;
-    show_job(rt, "2^32 - 1 wanted kinds announced", lists.as_slice())?;
-    let part = swap_spliced(heap, 15, 2, &[2, 0, 0])?;
-    show_job(rt, "a leaf pattern that uses a part", part.as_slice())?;
+    let behind = spliced(heap, &SWAP, 48, 0, &[0])?;
+    show_job(rt, "a word behind the end", &behind)?;
+    let lists = spliced(heap, &SWAP, 12, 1, &[u32::MAX])?;
+    show_job(rt, "2^32 - 1 wanted kinds announced", &lists)?;
+    let part = spliced(heap, &SWAP, 15, 2, &[2, 0, 0])?;
+    show_job(rt, "a leaf pattern that uses a part", &part)?;
     let n = beginnings(heap, &SWAP)?;
     println!(rt; "beginnings of swap that are jobs: {n}")?;
     let n = changed(heap, &SWAP)?;
@@ -166,23 +152,29 @@ fn bad_jobs(rt: &HostRuntime) -> anyhow::Result<()> {
     Ok(())
 }
 
+// What is written as a tree, and what only looks like one.
+const TREES: [(&str, &[u32]); 11] = [
+    ("sample", &SAMPLE),
+    ("leaf 1", &[0, 1]),
+    ("no words", &[]),
+    ("one word", &[0]),
+    ("a mark that is not below 2", &[0, 2]),
+    ("a node's mark that is not below 2", &[1, 2, 0, 0, 0, 0]),
+    ("a node without parts", &[1, 0]),
+    ("a node without its right part", &[1, 0, 0, 0]),
+    ("two trees", &[0, 0, 0, 0]),
+    ("a tree and a word", &[0, 0, 0]),
+    ("neither leaf nor node", &[2, 0, 0, 0, 0, 0]),
+];
+
 fn trees(rt: &HostRuntime) -> anyhow::Result<()> {
-    show_tree(rt, "sample", &SAMPLE)?;
-    show_tree(rt, "leaf 1", &[0, 1])?;
-    show_tree(rt, "no words", &[])?;
-    show_tree(rt, "one word", &[0])?;
-    show_tree(rt, "a mark that is not below 2", &[0, 2])?;
-    show_tree(rt, "a node's mark that is not below 2", &[1, 2, 0, 0, 0, 0])?;
-    show_tree(rt, "a node without parts", &[1, 0])?;
-    show_tree(rt, "a node without its right part", &[1, 0, 0, 0])?;
-    show_tree(rt, "two trees", &[0, 0, 0, 0])?;
-    show_tree(rt, "a tree and a word", &[0, 0, 0])?;
-    show_tree(rt, "neither leaf nor node", &[2, 0, 0, 0, 0, 0])?;
+    for (name, tree) in TREES {
+        show_tree(rt, name, tree)?;
+    }
     let right = right_comb(rt.alloc(), 1_000_000)?;
-    show_tree(rt, "a million nodes to the right", right.as_slice())?;
+    show_tree(rt, "a million nodes to the right", &right)?;
     let left = left_comb(rt.alloc(), 1_000_001)?;
-    show_tree(rt, "a million and one nodes to the left", left.as_slice())?;
-    Ok(())
+    show_tree(rt, "a million and one nodes to the left", &left)
 }
 
 fn run(rt: &HostRuntime) -> anyhow::Result<()> {

@@ -1,82 +1,80 @@
 // The call `judge`, on the worked cases and at the limits of what is lent.
-use crate::jobs::{SWAP, TypeTables, job_with};
+use made_jobs::{JobTables, SWAP, TurnTables, TypeTables};
 use std::alloc::{AllocError, Global};
-use turned::{Judged, judge};
+use turned::{Judged, Unjudged, Verdict, judge, judge_words};
 
 // A room of so many words is filled with nines before a call.
 const ROOM: usize = 400;
 
-// The work words that `judge` asks for.
-fn work_words(job: &[u32], most: u32) -> usize {
-    let n = most as u128;
-    let words = 4096 + 4 * job.len() as u128 + (n + 1) * (256 + n);
-    usize::try_from(words).unwrap_or(usize::MAX)
-}
+// No more classes are counted.
+const MOST: u32 = 200;
 
-fn word_for(answer: Judged) -> &'static str {
-    match answer {
-        Judged::Fits => "fits",
-        Judged::Breaks(_) => "breaks",
-        Judged::NoJob => "no job",
-        Judged::Many => "many",
-        Judged::OutFull => "out full",
-        Judged::Few => "few",
-    }
-}
+// So many words of a tree are shown.
+const SHORT: usize = 12;
 
-// One call, with so many work words; the tree's words are written into `tree`.
-fn call(
-    heap: Global,
-    job: &[u32],
-    most: u32,
-    tree: &mut [u32],
-    work: usize,
-) -> Result<Judged, AllocError> {
-    let mut lent = vec![in heap; 0u32; work]?;
-    tree.fill(9);
-    Ok(judge(job, most, tree, lent.as_mut_slice()))
-}
-
-// How many classes a job has: the least number that is not answered by `many`.
-fn count_classes(heap: Global, job: &[u32], limit: u32) -> Result<u32, AllocError> {
-    let mut tree = vec![in heap; 0u32; ROOM]?;
-    for most in 0..limit {
-        match call(heap, job, most, tree.as_mut_slice(), work_words(job, most))? {
-            Judged::Many => {}
-            _ => return Ok(most),
-        }
-    }
-    Ok(limit)
-}
-
-fn show_call(
-    rt: &HostRuntime,
-    name: &str,
-    job: &[u32],
+// A call of `judge`: its job, how many classes are allowed, so many words of room, and so many work words.
+#[derive(Clone, Copy)]
+struct Case<'a> {
+    job: &'a [u32],
     most: u32,
     room: usize,
     work: usize,
-) -> anyhow::Result<()> {
-    let mut tree = vec![in rt.alloc(); 0u32; room]?;
-    let answer = call(rt.alloc(), job, most, tree.as_mut_slice(), work)?;
-    let word = word_for(answer);
-    let words = match answer {
-        Judged::Breaks(words) => words,
-        _ => 0,
-    };
-    let kept = tree.iter().skip(words).copied().min().unwrap_or(9);
-    let shown = tree.get(0..words.min(12)).unwrap_or(&[]);
-    println!(rt; "{name}: {word}, {words} words {shown:?}, least word behind {kept}")?;
-    Ok(())
+}
+
+impl<'a> Case<'a> {
+    // With room enough and just the work words that are asked for.
+    fn new(job: &'a [u32], most: u32) -> Case<'a> {
+        let work = usize::try_from(judge_words(job.len(), most)).unwrap_or(usize::MAX);
+        Case {
+            job,
+            most,
+            room: ROOM,
+            work,
+        }
+    }
+
+    // The answer, and what then stands in the room.
+    fn call(self, heap: Global) -> Result<(Judged, Vec<u32>), AllocError> {
+        let mut tree = vec![in heap; 9u32; self.room]?;
+        let mut lent = vec![in heap; 0u32; self.work]?;
+        let answer = judge(self.job, self.most, &mut tree, &mut lent);
+        Ok((answer, tree))
+    }
+
+    fn show(self, rt: &HostRuntime, name: &str) -> anyhow::Result<()> {
+        let (answer, tree) = self.call(rt.alloc())?;
+        match answer {
+            Ok(verdict) => print!(rt; "{name}: {verdict}")?,
+            Err(why) => print!(rt; "{name}: {why}")?,
+        }
+        let words = match answer {
+            Ok(Verdict::Breaks(words)) => words,
+            _ => 0,
+        };
+        let shown = tree.get(0..words.min(SHORT)).unwrap_or(&[]);
+        let kept = tree.iter().skip(words).copied().min().unwrap_or(9);
+        println!(rt; ", {words} words {shown:?}, least word behind {kept}")?;
+        Ok(())
+    }
+}
+
+// How many classes a job has: the least number that is not answered by `many`.
+fn count_classes(heap: Global, job: &[u32]) -> Result<u32, AllocError> {
+    for most in 0..MOST {
+        let (answer, _) = Case::new(job, most).call(heap)?;
+        if answer != Err(Unjudged::Many) {
+            return Ok(most);
+        }
+    }
+    Ok(MOST)
 }
 
 // The job judged with as many classes as it has, and with one less.
 fn show(rt: &HostRuntime, name: &str, job: &[u32]) -> anyhow::Result<()> {
-    let classes = count_classes(rt.alloc(), job, 200)?;
+    let classes = count_classes(rt.alloc(), job)?;
     println!(rt; "{name}: {classes} classes")?;
-    show_call(rt, name, job, classes, ROOM, work_words(job, classes))?;
-    let less = classes.saturating_sub(1);
-    show_call(rt, "with one less", job, less, ROOM, work_words(job, less))
+    Case::new(job, classes).show(rt, name)?;
+    Case::new(job, classes.saturating_sub(1)).show(rt, "with one less")
 }
 
 // Two marks: the number of leaves marked 1 is even (kind 0) or odd.
@@ -99,49 +97,64 @@ fn no_ones(wanted: &[u32]) -> TypeTables<'_> {
     }
 }
 
-const STAYS: [u32; 4] = [0, 0, 0, 1];
+// Two marks, one state, and a leaf stays; a node becomes its left part twice.
+const LEFT_TWICE: TurnTables<'static> = TurnTables {
+    states: 1,
+    leaves: &[0, 0, 0, 1],
+    nodes: &[1, 1, 2, 0, 0, 2, 0, 0, 1, 1, 2, 0, 0, 2, 0, 0],
+};
+
+// Everything becomes a leaf 0.
+const ZERO: TurnTables<'static> = TurnTables {
+    states: 1,
+    leaves: &[0, 0, 0, 0],
+    nodes: &[0, 0, 0, 0],
+};
+
+// A job with two marks, of trees by the parity of their leaves 1.
+fn of_parity(
+    heap: Global,
+    from: &[u32],
+    turn: TurnTables,
+    to: TypeTables,
+) -> Result<Vec<u32>, AllocError> {
+    let job = JobTables {
+        marks: 2,
+        from: parity(from),
+        turn,
+        to,
+    };
+    job.words(heap)
+}
 
 fn small_cases(rt: &HostRuntime) -> anyhow::Result<()> {
     let heap = rt.alloc();
     show(rt, "parts exchanged", &SWAP)?;
-    let left_twice = [1, 1, 2, 0, 0, 2, 0, 0, 1, 1, 2, 0, 0, 2, 0, 0];
-    let job = job_with(heap, 2, parity(&[0]), 1, &STAYS, &left_twice, no_ones(&[0]))?;
-    show(rt, "left part twice", job.as_slice())?;
-    let job = job_with(
-        heap,
-        2,
-        parity(&[0]),
-        1,
-        &[0, 0, 0, 0],
-        &[0, 0, 0, 0],
-        no_ones(&[0]),
-    )?;
-    show(rt, "a leaf 0 of everything", job.as_slice())?;
-    let job = job_with(heap, 2, parity(&[]), 1, &STAYS, &left_twice, no_ones(&[0]))?;
-    show(rt, "nothing comes in", job.as_slice())?;
-    let job = job_with(
-        heap,
-        2,
-        parity(&[0, 1]),
-        1,
-        &STAYS,
-        &left_twice,
-        no_ones(&[]),
-    )?;
-    show(rt, "nothing may come out", job.as_slice())
+    let job = of_parity(heap, &[0], LEFT_TWICE, no_ones(&[0]))?;
+    show(rt, "left part twice", &job)?;
+    let job = of_parity(heap, &[0], ZERO, no_ones(&[0]))?;
+    show(rt, "a leaf 0 of everything", &job)?;
+    let job = of_parity(heap, &[], LEFT_TWICE, no_ones(&[0]))?;
+    show(rt, "nothing comes in", &job)?;
+    let job = of_parity(heap, &[0, 1], LEFT_TWICE, no_ones(&[]))?;
+    show(rt, "nothing may come out", &job)
 }
 
 // A list: nodes 0 whose left part is a leaf, ending in a leaf 0. Kinds: leaf 0, leaf 1, a longer list, anything else.
 fn lists(rt: &HostRuntime) -> anyhow::Result<()> {
-    let nodes = [
-        2, 3, 2, 3, 2, 3, 2, 3, 3, 3, 3, 3, 3, 3, 3, 3, 3, 3, 3, 3, 3, 3, 3, 3, 3, 3, 3, 3, 3, 3,
-        3, 3,
-    ];
     let list = TypeTables {
         kinds: 4,
         leaves: &[0, 1],
-        nodes: &nodes,
+        nodes: &[
+            2, 3, 2, 3, 2, 3, 2, 3, 3, 3, 3, 3, 3, 3, 3, 3, 3, 3, 3, 3, 3, 3, 3, 3, 3, 3, 3, 3, 3,
+            3, 3, 3,
+        ],
         wanted: &[0, 2],
+    };
+    let turn = TurnTables {
+        states: 2,
+        leaves: &[0, 0, 0, 1, 0, 0, 0, 0],
+        nodes: &[1, 0, 2, 1, 0, 2, 0, 1, 1, 1, 2, 1, 0, 2, 0, 1, 0, 0, 0, 0],
     };
     let zeros = TypeTables {
         kinds: 2,
@@ -149,128 +162,151 @@ fn lists(rt: &HostRuntime) -> anyhow::Result<()> {
         nodes: &[0, 1, 1, 1, 1, 1, 1, 1],
         wanted: &[0],
     };
-    let on_leaf = [0, 0, 0, 1, 0, 0, 0, 0];
-    let on_node = [1, 0, 2, 1, 0, 2, 0, 1, 1, 1, 2, 1, 0, 2, 0, 1, 0, 0, 0, 0];
-    let job = job_with(rt.alloc(), 2, list, 2, &on_leaf, &on_node, zeros)?;
-    show(rt, "two states on lists", job.as_slice())
+    let job = JobTables {
+        marks: 2,
+        from: list,
+        turn,
+        to: zeros,
+    };
+    show(rt, "two states on lists", &job.words(rt.alloc())?)
 }
 
-// The table of a type with one mark whose kinds are 0 .. kinds - 1: the kind of a node is a function of its parts' kinds.
-fn table_by(heap: Global, kinds: u32, rule: Rule) -> Result<Vec<u32>, AllocError> {
+// The table of a type with one mark whose kinds are 0 .. kinds - 1: the kind of a node by its parts' kinds.
+fn table_by<F: Fn(u32, u32) -> u32>(
+    heap: Global,
+    kinds: u32,
+    kind: F,
+) -> Result<Vec<u32>, AllocError>
+    requires { F.IsAlwaysCallable kind }
+{
     let mut nodes = Vec::new(heap);
     for l in 0..kinds {
-        for r in 0..kinds {
-            nodes.push(rule.apply(l, r))?;
-        }
+        nodes.extend((0..kinds).map(|r| kind(l, r)))?;
     }
     Ok(nodes)
 }
 
-#[derive(Clone, Copy)]
-enum Rule {
-    // the sum, by a modulus
-    Modulo(u32),
-    // the sum, at most so much
-    UpTo(u32),
-    // one more than both where they are the same, by a modulus; else the modulus itself
-    Full(u32),
-}
+// One mark: a turn that keeps every tree.
+const KEEPS: TurnTables<'static> = TurnTables {
+    states: 1,
+    leaves: &[0, 0],
+    nodes: &[1, 0, 2, 0, 0, 2, 0, 1],
+};
 
-impl Rule {
-    fn apply(self, l: u32, r: u32) -> u32 {
-        match self {
-            Rule::Modulo(m) => l.saturating_add(r).checked_rem(m).unwrap_or(0),
-            Rule::UpTo(m) => l.saturating_add(r).min(m),
-            Rule::Full(m) if l == r && l < m => (l + 1).checked_rem(m).unwrap_or(0),
-            Rule::Full(m) => m,
-        }
-    }
+// The words of a job with one mark that keeps every tree.
+fn kept<'a>(
+    heap: Global,
+    from: TypeTables<'a>,
+    to: TypeTables<'a>,
+) -> Result<Vec<u32>, AllocError> {
+    let job = JobTables {
+        marks: 1,
+        from,
+        turn: KEEPS,
+        to,
+    };
+    job.words(heap)
 }
-
-const KEEPS: [u32; 8] = [1, 0, 2, 0, 0, 2, 0, 1];
 
 // Leaves are counted modulo 60 before, and 59 are wanted; after, up to 59, and fewer are wanted. The least tree that breaks it
 // has 59 leaves.
 fn sixty(rt: &HostRuntime) -> anyhow::Result<()> {
     let heap = rt.alloc();
-    let modulo = table_by(heap, 60, Rule::Modulo(60))?;
-    let capped = table_by(heap, 60, Rule::UpTo(59))?;
-    let mut fewer = Vec::new(heap);
-    for k in 1..59 {
-        fewer.push(k)?;
-    }
+    let modulo = table_by(heap, 60, |l, r| l.saturating_add(r) % 60)?;
+    let capped = table_by(heap, 60, |l, r| l.saturating_add(r).min(59))?;
+    let fewer: Vec<u32> = (1..59).collect(heap)?;
     let from = TypeTables {
         kinds: 60,
         leaves: &[1],
-        nodes: modulo.as_slice(),
+        nodes: &modulo,
         wanted: &[59],
     };
     let to = TypeTables {
         kinds: 60,
         leaves: &[1],
-        nodes: capped.as_slice(),
-        wanted: fewer.as_slice(),
+        nodes: &capped,
+        wanted: &fewer,
     };
-    let job = job_with(heap, 1, from, 1, &[0, 0], &KEEPS, to)?;
-    show(rt, "59 leaves", job.as_slice())?;
+    let job = kept(heap, from, to)?;
+    show(rt, "59 leaves", &job)?;
     let words = 4 * 58 + 2;
-    let work = work_words(job.as_slice(), 200);
-    show_call(
-        rt,
-        "room for exactly the tree",
-        job.as_slice(),
-        200,
-        words,
-        work,
-    )?;
-    show_call(
-        rt,
-        "one word less",
-        job.as_slice(),
-        200,
-        words.saturating_sub(1),
-        work,
-    )
+    let case = Case::new(&job, MOST);
+    Case {
+        room: words,
+        ..case
+    }
+    .show(rt, "room for exactly the tree")?;
+    Case {
+        room: words - 1,
+        ..case
+    }
+    .show(rt, "one word less")
+}
+
+// One more than the height of both parts where they are equally high, by a modulus; else the modulus itself.
+fn full_height(modulus: u32, l: u32, r: u32) -> u32 {
+    if l == r && l < modulus {
+        (l + 1) % modulus
+    } else {
+        modulus
+    }
 }
 
 // Full trees by their height, modulo 9 before and modulo 8 after: the least that is 7 before and 6 after is 70 levels high,
 // and has 2^71 - 1 leaves and nodes.
 fn towers(rt: &HostRuntime) -> anyhow::Result<()> {
     let heap = rt.alloc();
-    let nine = table_by(heap, 10, Rule::Full(9))?;
-    let eight = table_by(heap, 9, Rule::Full(8))?;
+    let nine = table_by(heap, 10, |l, r| full_height(9, l, r))?;
+    let eight = table_by(heap, 9, |l, r| full_height(8, l, r))?;
     let from = TypeTables {
         kinds: 10,
         leaves: &[0],
-        nodes: nine.as_slice(),
+        nodes: &nine,
         wanted: &[7],
     };
     let to = TypeTables {
         kinds: 9,
         leaves: &[0],
-        nodes: eight.as_slice(),
+        nodes: &eight,
         wanted: &[0, 1, 2, 3, 4, 5, 7, 8],
     };
-    let job = job_with(heap, 1, from, 1, &[0, 0], &KEEPS, to)?;
-    show(rt, "a full tree of 70 levels", job.as_slice())
+    show(rt, "a full tree of 70 levels", &kept(heap, from, to)?)
 }
 
 fn refusals(rt: &HostRuntime) -> anyhow::Result<()> {
-    let work = work_words(&SWAP, 2);
-    show_call(rt, "work words as asked for", &SWAP, 2, ROOM, work)?;
-    show_call(
-        rt,
-        "one work word less",
-        &SWAP,
-        2,
-        ROOM,
-        work.saturating_sub(1),
-    )?;
-    show_call(rt, "no class allowed", &SWAP, 0, ROOM, work_words(&SWAP, 0))?;
-    show_call(rt, "2^32 - 1 classes", &SWAP, u32::MAX, ROOM, 1_000_000)?;
-    show_call(rt, "2^16 - 1 classes", &SWAP, 65_535, ROOM, 1_000_000)?;
-    show_call(rt, "no job", &[2, 2], 2, ROOM, work)?;
-    show_call(rt, "no words at all", &[], 0, 0, work_words(&[], 0))
+    let case = Case::new(&SWAP, 2);
+    let work = case.work;
+    case.show(rt, "work words as asked for")?;
+    Case {
+        work: work.saturating_sub(1),
+        ..case
+    }
+    .show(rt, "one work word less")?;
+    Case::new(&SWAP, 0).show(rt, "no class allowed")?;
+    let lent = Case {
+        work: 1_000_000,
+        ..case
+    };
+    Case {
+        most: u32::MAX,
+        ..lent
+    }
+    .show(rt, "2^32 - 1 classes")?;
+    Case {
+        most: 65_535,
+        ..lent
+    }
+    .show(rt, "2^16 - 1 classes")?;
+    Case {
+        job: &[2, 2],
+        ..case
+    }
+    .show(rt, "no job")?;
+    Case {
+        room: 0,
+        ..Case::new(&[], 0)
+    }
+    .show(rt, "no words at all")
 }
 
 pub fn show_judging(rt: &HostRuntime) -> anyhow::Result<()> {

@@ -1,7 +1,6 @@
 // Runs the call `judge` on worked cases and at the limits of what is lent.
 #![tactic(auto)]
 
-mod jobs;
 mod judging;
 
 fn main(rt: HostRuntime) -> anyhow::Result<()> {

@@ -1,12 +1,12 @@
 // Worked cases, with the answers that are known of them.
 use crate::compared;
 use crate::counts::Counts;
-use crate::jobs::{Job, Type};
-use crate::judging::{Verdict, holds};
-use crate::making::{MARKS, Making, Rule};
+use crate::jobs::{Job, Pattern, Side, Turn, Type};
+use crate::making::{MARKS, turn_by, type_by};
 use crate::trees::Forest;
+use anyhow::ensure;
 use std::alloc::{AllocError, Global};
-use turned::{Done, turn};
+use turned::{Unturned, turn};
 
 // The job, all trees of at most nine leaves and nodes tried, breaks by this tree, or fits if that is empty.
 fn check(
@@ -21,30 +21,126 @@ fn check(
     let classes = counts.most_classes;
     let words = job.row(rt.alloc())?.len();
     match &verdict {
-        Verdict::Fits => {
+        None => {
             println!(rt; "{name}: {words} words, {classes} classes, fits")?;
-            holds(known.is_empty(), "it is known to break")
+            ensure!(known.is_empty(), "it is known to break");
         }
-        Verdict::Breaks(tree) => {
+        Some(tree) => {
             let size = tree.len() / 2;
             println!(rt;
                 "{name}: {words} words, {classes} classes, breaks by {size} leaves and nodes"
             )?;
-            holds(
+            ensure!(
                 tree.as_slice() == known,
-                "it is known to break by another tree",
-            )
+                "it is known to break by another tree"
+            );
         }
     }
+    Ok(())
 }
 
-fn job_of(heap: Global, from: Type, making: Making, to: Type) -> Result<Job, AllocError> {
-    Ok(Job {
+// What state 0 makes of the part on a side.
+fn part(side: Side) -> Pattern {
+    Pattern::Part(0, side)
+}
+
+// Kind 0 of all.
+fn any(heap: Global, wanted: &[u32]) -> Result<Type, AllocError> {
+    type_by(heap, 1, |_| 0, |_, _, _| 0, wanted)
+}
+
+// 0 if the number of leaves marked 1 is even, else 1.
+fn parity(heap: Global, wanted: &[u32]) -> Result<Type, AllocError> {
+    type_by(heap, 2, |mark| mark, |_, left, right| left ^ right, wanted)
+}
+
+// 0 if no leaf is marked 1, else 1.
+fn no_ones(heap: Global, wanted: &[u32]) -> Result<Type, AllocError> {
+    type_by(heap, 2, |mark| mark, |_, left, right| left | right, wanted)
+}
+
+// 0 if it is the leaf 0, else 1.
+fn zero_leaf(heap: Global, wanted: &[u32]) -> Result<Type, AllocError> {
+    type_by(heap, 2, |mark| mark, |_, _, _| 1, wanted)
+}
+
+// 0 if all marks are 0, else 1.
+fn zeros(heap: Global, wanted: &[u32]) -> Result<Type, AllocError> {
+    type_by(
+        heap,
+        2,
+        |mark| mark,
+        |mark, left, right| mark | left | right,
+        wanted,
+    )
+}
+
+// 0 the leaf 0; 1 the leaf 1; 2 a list, that is nodes 0 whose left part is a leaf, ending in a leaf 0; else 3.
+fn list(heap: Global, wanted: &[u32]) -> Result<Type, AllocError> {
+    type_by(
+        heap,
+        4,
+        |mark| mark,
+        |mark, left, right| {
+            if mark == 0 && left < 2 && right % 2 == 0 {
+                2
+            } else {
+                3
+            }
+        },
+        wanted,
+    )
+}
+
+// The number of leaves modulo 60.
+fn modulo(heap: Global, wanted: &[u32]) -> Result<Type, AllocError> {
+    type_by(
+        heap,
+        60,
+        |_| 1,
+        |_, left, right| left.saturating_add(right) % 60,
+        wanted,
+    )
+}
+
+// The number of leaves, up to 59.
+fn up_to(heap: Global, wanted: &[u32]) -> Result<Type, AllocError> {
+    type_by(
+        heap,
+        60,
+        |_| 1,
+        |_, left, right| left.saturating_add(right).min(59),
+        wanted,
+    )
+}
+
+// A leaf stays, and of a node a(l, r) comes a(l, r).
+fn same(heap: Global) -> Result<Turn, AllocError> {
+    turn_by(
+        heap,
+        1,
+        |mark| Pattern::Leaf(mark),
+        |mark| Pattern::node(heap, mark, part(Side::Left), part(Side::Right)),
+    )
+}
+
+// A leaf stays, and of every node a(l, r) comes the node with this mark over these parts.
+fn joining(heap: Global, mark: u32, left: Side, right: Side) -> Result<Turn, AllocError> {
+    turn_by(
+        heap,
+        1,
+        |mark| Pattern::Leaf(mark),
+        |_| Pattern::node(heap, mark, part(left), part(right)),
+    )
+}
+
+fn job_of(from: Type, turn: Turn, to: Type) -> Job {
+    Job {
         marks: MARKS,
         from,
-        turn: making.turn(heap)?,
+        turn,
         to,
-    })
+    }
 }
 
 // So many nodes 0 in a row to the right, every left part a leaf 0.
@@ -57,107 +153,100 @@ fn comb(heap: Global, nodes: u32) -> Result<Vec<u32>, AllocError> {
     Ok(tree)
 }
 
-fn check_exchanged(rt: &HostRuntime, forests: &[Forest]) -> anyhow::Result<()> {
-    let heap = rt.alloc();
-    let from = Rule::Parity.wanting(heap, &[0])?;
-    let to = Rule::Parity.wanting(heap, &[0])?;
-    let job = job_of(heap, from, Making::Exchanged, to)?;
-    check(rt, forests, "1: parts exchanged, even to even", &job, &[])
+// Of a node a(l, r) comes 1(r, l).
+fn exchanged(heap: Global) -> Result<Job, AllocError> {
+    let turn = joining(heap, 1, Side::Right, Side::Left)?;
+    Ok(job_of(parity(heap, &[0])?, turn, parity(heap, &[0])?))
 }
 
-fn check_left_twice(rt: &HostRuntime, forests: &[Forest]) -> anyhow::Result<()> {
-    let heap = rt.alloc();
-    let from = Rule::Parity.wanting(heap, &[0])?;
-    let to = Rule::NoOnes.wanting(heap, &[0])?;
-    let job = job_of(heap, from, Making::LeftTwice, to)?;
-    let tree = [1, 0, 0, 1, 0, 1];
-    check(rt, forests, "2: left part twice, even to no 1", &job, &tree)
+// Of a node a(l, r) comes 1(l, l).
+fn left_twice(heap: Global) -> Result<Job, AllocError> {
+    let turn = joining(heap, 1, Side::Left, Side::Left)?;
+    Ok(job_of(parity(heap, &[0])?, turn, no_ones(heap, &[0])?))
 }
 
-fn check_zero(rt: &HostRuntime, forests: &[Forest]) -> anyhow::Result<()> {
-    let heap = rt.alloc();
-    let from = Rule::Any.wanting(heap, &[0])?;
-    let to = Rule::ZeroLeaf.wanting(heap, &[0])?;
-    let job = job_of(heap, from, Making::Zero, to)?;
-    check(rt, forests, "3: everything a leaf 0", &job, &[])
+// Of everything comes a leaf 0.
+fn zero(heap: Global) -> Result<Job, AllocError> {
+    let turn = turn_by(heap, 1, |_| Pattern::Leaf(0), |_| Ok(Pattern::Leaf(0)))?;
+    Ok(job_of(any(heap, &[0])?, turn, zero_leaf(heap, &[0])?))
 }
 
-fn check_list(rt: &HostRuntime, forests: &[Forest]) -> anyhow::Result<()> {
-    let heap = rt.alloc();
-    let from = Rule::List.wanting(heap, &[0, 2])?;
-    let to = Rule::Zeros.wanting(heap, &[0])?;
-    let job = job_of(heap, from, Making::LeftZero, to)?;
-    check(rt, forests, "4: lists, left leaves made 0", &job, &[])
-}
-
-fn check_nothing(rt: &HostRuntime, forests: &[Forest]) -> anyhow::Result<()> {
-    let heap = rt.alloc();
-    let from = Rule::Any.wanting(heap, &[])?;
-    let to = Rule::NoOnes.wanting(heap, &[0])?;
-    let job = job_of(heap, from, Making::Same, to)?;
-    check(rt, forests, "5: nothing comes in", &job, &[])?;
-    let from = Rule::Any.wanting(heap, &[0])?;
-    let to = Rule::Any.wanting(heap, &[])?;
-    let job = job_of(heap, from, Making::Same, to)?;
-    check(rt, forests, "5: nothing is to come out", &job, &[0, 0])
-}
-
-fn check_counting(rt: &HostRuntime, forests: &[Forest]) -> anyhow::Result<()> {
-    let heap = rt.alloc();
-    let from = Rule::Modulo.wanting(heap, &[59])?;
-    let below: Vec<u32> = (0..59u32).collect(heap)?;
-    let job = job_of(
+// Of a node a(l, r) comes a(0, r), the 0 by a second state.
+fn left_zero(heap: Global) -> Result<Job, AllocError> {
+    let turn = turn_by(
         heap,
-        from,
-        Making::Same,
-        Rule::UpTo.wanting(heap, below.as_slice())?,
+        2,
+        |mark| Pattern::Leaf(mark),
+        |mark| Pattern::node(heap, mark, Pattern::Part(1, Side::Left), part(Side::Right)),
     )?;
-    let tree = comb(heap, 58)?;
-    check(
-        rt,
-        forests,
-        "6: leaves counted modulo 60 and up to 59",
-        &job,
-        tree.as_slice(),
-    )
+    Ok(job_of(list(heap, &[0, 2])?, turn, zeros(heap, &[0])?))
+}
+
+fn nothing_in(heap: Global) -> Result<Job, AllocError> {
+    Ok(job_of(any(heap, &[])?, same(heap)?, no_ones(heap, &[0])?))
+}
+
+fn nothing_out(heap: Global) -> Result<Job, AllocError> {
+    Ok(job_of(any(heap, &[0])?, same(heap)?, any(heap, &[])?))
+}
+
+fn counting(heap: Global) -> Result<Job, AllocError> {
+    let below: Vec<u32> = (0..59u32).collect(heap)?;
+    Ok(job_of(modulo(heap, &[59])?, same(heap)?, up_to(heap, &below)?))
+}
+
+// Of a node a(l, r) comes 0(r, r).
+fn right_twice(heap: Global) -> Result<Job, AllocError> {
+    let turn = joining(heap, 0, Side::Right, Side::Right)?;
+    Ok(job_of(any(heap, &[0])?, turn, any(heap, &[0])?))
 }
 
 // On 200 nodes in a row every room is too short.
-fn check_doubling(rt: &HostRuntime, forests: &[Forest]) -> anyhow::Result<()> {
-    let heap = rt.alloc();
-    let any = Rule::Any.wanting(heap, &[0])?;
-    let job = job_of(
-        heap,
-        any,
-        Making::RightTwice,
-        Rule::Any.wanting(heap, &[0])?,
-    )?;
-    check(rt, forests, "7: right part twice", &job, &[])?;
+fn check_doubling(heap: Global, job: &Job) -> anyhow::Result<()> {
     let words = job.row(heap)?;
     let tree = comb(heap, 200)?;
     let mut work = vec![in heap; 0u32; 100_000]?;
     for room in [0, 1, 1_000_000] {
         let mut out = vec![in heap; 0u32; room]?;
-        let done = turn(
-            words.as_slice(),
-            tree.as_slice(),
-            out.as_mut_slice(),
-            work.as_mut_slice(),
+        let done = turn(&words, &tree, out.as_mut_slice(), work.as_mut_slice());
+        ensure!(
+            done == Err(Unturned::Full),
+            "a result of more than 2^200 words"
         );
-        holds(
-            matches!(done, Done::Full),
-            "a result of more than 2^200 words",
-        )?;
     }
     Ok(())
 }
 
 pub fn check_cases(rt: &HostRuntime, forests: &[Forest]) -> anyhow::Result<()> {
-    check_exchanged(rt, forests)?;
-    check_left_twice(rt, forests)?;
-    check_zero(rt, forests)?;
-    check_list(rt, forests)?;
-    check_nothing(rt, forests)?;
-    check_counting(rt, forests)?;
-    check_doubling(rt, forests)
+    let heap = rt.alloc();
+    check(
+        rt,
+        forests,
+        "1: parts exchanged, even to even",
+        &exchanged(heap)?,
+        &[],
+    )?;
+    let name = "2: left part twice, even to no 1";
+    check(rt, forests, name, &left_twice(heap)?, &[1, 0, 0, 1, 0, 1])?;
+    check(rt, forests, "3: everything a leaf 0", &zero(heap)?, &[])?;
+    check(
+        rt,
+        forests,
+        "4: lists, left leaves made 0",
+        &left_zero(heap)?,
+        &[],
+    )?;
+    check(rt, forests, "5: nothing comes in", &nothing_in(heap)?, &[])?;
+    check(
+        rt,
+        forests,
+        "5: nothing is to come out",
+        &nothing_out(heap)?,
+        &[0, 0],
+    )?;
+    let name = "6: leaves counted modulo 60 and up to 59";
+    check(rt, forests, name, &counting(heap)?, &comb(heap, 58)?)?;
+    let doubling = right_twice(heap)?;
+    check(rt, forests, "7: right part twice", &doubling, &[])?;
+    check_doubling(heap, &doubling)
 }

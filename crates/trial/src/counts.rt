@@ -1,8 +1,8 @@
 // What was tried, counted.
-use crate::judging::{MANY_CALLS, Verdict};
+use crate::judging::MANY_CALLS;
 use crate::tried::Tried;
 use std::fmt;
-use turned::Done;
+use turned::{Done, Unturned};
 
 // The words of a tree of nine leaves and nodes.
 const NINE: usize = 18;
@@ -36,16 +36,16 @@ pub struct Counts {
 }
 
 impl Counts {
-    // One more job, on which all trees of at most so many words were tried.
-    pub fn judged(&mut self, tried: Tried, verdict: &Verdict, longest: usize) {
+    // One more job, on which all trees of at most so many words were tried, and the tree that breaks it, if one does.
+    pub fn judged(&mut self, tried: Tried, verdict: Option<&[u32]>, longest: usize) {
         self.jobs = self.jobs.saturating_add(1);
         self.classes = self.classes.saturating_add(u64::from(tried.classes));
         self.seen = self.seen.saturating_add(u64::from(tried.seen));
         self.most_classes = self.most_classes.max(u64::from(tried.classes));
         self.many = self.many.saturating_add(MANY_CALLS);
         match verdict {
-            Verdict::Fits => self.fits = self.fits.saturating_add(1),
-            Verdict::Breaks(tree) => {
+            None => self.fits = self.fits.saturating_add(1),
+            Some(tree) => {
                 self.largest = self.largest.max(tree.len() as u64 / 2);
                 let by = if tree.len() <= NINE {
                     &mut self.by_small
@@ -61,9 +61,9 @@ impl Counts {
 
     pub fn turned(&mut self, done: Done) {
         match done {
-            Done::Result(_) => self.results = self.results.saturating_add(1),
-            Done::NotOf => self.not_of = self.not_of.saturating_add(1),
-            _ => self.full = self.full.saturating_add(1),
+            Ok(_) => self.results = self.results.saturating_add(1),
+            Err(Unturned::NotOf) => self.not_of = self.not_of.saturating_add(1),
+            Err(_) => self.full = self.full.saturating_add(1),
         }
     }
 }

@@ -1,4 +1,5 @@
 // Jobs as plain data, and their rows of words.
+use crate::trees::Tree;
 use std::alloc::{AllocError, Global};
 
 // A bottom-up automaton: the kind of a leaf by its mark, that of a node by its mark and the kinds of its parts.
@@ -23,18 +24,19 @@ impl Type {
     }
 
     pub fn wants(&self, kind: u32) -> bool {
-        self.wanted.as_slice().contains(&kind)
+        self.wanted.contains(&kind)
     }
 
     fn push_row(&self, row: &mut Vec<u32>) -> Result<(), AllocError> {
         row.push(self.kinds)?;
-        row.extend_from_slice(self.leaves.as_slice())?;
-        row.extend_from_slice(self.nodes.as_slice())?;
+        row.extend_from_slice(&self.leaves)?;
+        row.extend_from_slice(&self.nodes)?;
         row.push(u32::try_from(self.wanted.len()).unwrap_or(u32::MAX))?;
-        row.extend_from_slice(self.wanted.as_slice())
+        row.extend_from_slice(&self.wanted)
     }
 }
 
+// A part of a node. The enums of the crates below are not used: a program that tries the calls shares no code with them.
 #[derive(Clone, Copy)]
 pub enum Side {
     Left,
@@ -99,17 +101,14 @@ pub struct Job {
 }
 
 impl Job {
-    fn place(&self, state: u32, mark: u32) -> usize {
+    // The pattern for a state at a tree, by what the tree begins with.
+    pub fn pattern(&self, state: u32, tree: Tree) -> Option<&Pattern> {
+        let (patterns, mark) = match tree {
+            Tree::Leaf(mark) => (&self.turn.leaves, mark),
+            Tree::Node(mark, _, _) => (&self.turn.nodes, mark),
+        };
         let row = (state as usize).saturating_mul(self.marks as usize);
-        row.saturating_add(mark as usize)
-    }
-
-    pub fn leaf_pattern(&self, state: u32, mark: u32) -> Option<&Pattern> {
-        self.turn.leaves.get(self.place(state, mark))
-    }
-
-    pub fn node_pattern(&self, state: u32, mark: u32) -> Option<&Pattern> {
-        self.turn.nodes.get(self.place(state, mark))
+        patterns.get(row.saturating_add(mark as usize))
     }
 
     pub fn row(&self, heap: Global) -> Result<Vec<u32>, AllocError> {
@@ -117,8 +116,8 @@ impl Job {
         row.push(self.marks)?;
         self.from.push_row(&mut row)?;
         row.push(self.turn.states)?;
-        push_patterns(self.turn.leaves.as_slice(), &mut row)?;
-        push_patterns(self.turn.nodes.as_slice(), &mut row)?;
+        push_patterns(&self.turn.leaves, &mut row)?;
+        push_patterns(&self.turn.nodes, &mut row)?;
         self.to.push_row(&mut row)?;
         Ok(row)
     }

@@ -4,9 +4,9 @@ use crate::kinds::{breaks, kinds_of};
 use crate::trees::{Forest, read_tree};
 use crate::tried::Tried;
 use crate::turning::{UNTOUCHED, untouched};
-use anyhow::{Context, anyhow};
+use anyhow::{Context, bail, ensure};
 use std::alloc::{AllocError, Global};
-use turned::{Judged, judge};
+use turned::{Judged, Unjudged, Verdict, judge};
 
 // The room for a tree that breaks a job.
 const ROOM: usize = 16_384;
@@ -16,25 +16,29 @@ pub const MANY_CALLS: u64 = 3;
 
 const NO_CALL: &str = "a buffer is too small";
 
-// What `judge` said: the job fits, or this tree breaks it.
-#[derive(Drop)]
-pub enum Verdict {
-    Fits,
-    Breaks(Vec<u32>),
-}
-
-// The work words that `judge` asks for.
+// The work words that `judge` asks for, by a formula of its own: a program that tries a call shares no code with it.
 fn work_words(job: usize, most: u32) -> usize {
     let n = u128::from(most);
     let words = 4096 + 4 * job as u128 + (n + 1) * (256 + n);
     usize::try_from(words).unwrap_or(usize::MAX)
 }
 
-pub fn holds(fact: bool, otherwise: &'static str) -> anyhow::Result<()> {
-    if fact {
-        Ok(())
-    } else {
-        Err(anyhow!(otherwise))
+// What is allowed and lent in one call: so many classes, so many words of room, and the work words that are asked for but
+// for so many.
+#[derive(Clone, Copy)]
+struct Lent {
+    most: u32,
+    room: usize,
+    lacks: usize,
+}
+
+impl Lent {
+    fn with(most: u32) -> Lent {
+        Lent {
+            most,
+            room: ROOM,
+            lacks: 0,
+        }
     }
 }
 
@@ -56,50 +60,41 @@ impl<'a> Judging<'a> {
         })
     }
 
-    // One call with so many words of room, and with the work words that are asked for but for so many.
-    fn call(&mut self, most: u32, room: usize, lacks: usize) -> anyhow::Result<Judged> {
+    fn call(&mut self, lent: Lent) -> anyhow::Result<Judged> {
         self.tree.as_mut_slice().fill(UNTOUCHED);
-        let need = work_words(self.words.len(), most).saturating_sub(lacks);
-        let tree = self.tree.as_mut_slice().get_mut(0..room).context(NO_CALL)?;
+        let need = work_words(self.words.len(), lent.most).saturating_sub(lent.lacks);
+        let tree = self
+            .tree
+            .as_mut_slice()
+            .get_mut(0..lent.room)
+            .context(NO_CALL)?;
         let work = self.work.as_mut_slice().get_mut(0..need).context(NO_CALL)?;
-        Ok(judge(self.words, most, tree, work))
+        Ok(judge(self.words, lent.most, tree, work))
     }
 
-    fn kept(&self) -> bool {
-        untouched(self.tree.as_slice())
+    // Holds the call to a refusal.
+    fn refuses(&mut self, lent: Lent, refusal: Unjudged) -> anyhow::Result<()> {
+        let answer = self.call(lent)?;
+        ensure!(
+            answer == Err(refusal) && untouched(&self.tree),
+            "judge does not say {refusal}"
+        );
+        Ok(())
     }
 
-    fn many(&mut self, most: u32) -> anyhow::Result<()> {
-        let many = matches!(self.call(most, ROOM, 0)?, Judged::Many);
-        holds(many && self.kept(), "judge does not say many")
-    }
-
-    fn few(&mut self, most: u32) -> anyhow::Result<()> {
-        let few = matches!(self.call(most, ROOM, 1)?, Judged::Few);
-        holds(few && self.kept(), "judge does not say few")
-    }
-
-    // A tree of so many words does not go into one word less.
-    fn full(&mut self, most: u32, words: usize) -> anyhow::Result<()> {
-        let room = words.saturating_sub(1);
-        let full = matches!(self.call(most, room, 0)?, Judged::OutFull);
-        holds(full && self.kept(), "judge does not say out full")
-    }
-
-    // What it says, with that many classes allowed.
-    fn verdict(&mut self, heap: Global, most: u32) -> anyhow::Result<Verdict> {
-        match self.call(most, ROOM, 0)? {
-            Judged::Fits => {
-                holds(self.kept(), "judge says fits, and writes")?;
-                Ok(Verdict::Fits)
+    // The tree that breaks the job, if `judge` does not say that it fits, with so many classes allowed.
+    fn verdict(&mut self, heap: Global, most: u32) -> anyhow::Result<Option<Vec<u32>>> {
+        match self.call(Lent::with(most))? {
+            Ok(Verdict::Fits) => {
+                ensure!(untouched(&self.tree), "judge says fits, and writes");
+                Ok(None)
             }
-            Judged::Breaks(words) => {
-                let tree = self.tree.as_slice().get(0..words).context(NO_CALL)?;
-                let rest = self.tree.as_slice().get(words..ROOM).context(NO_CALL)?;
-                holds(untouched(rest), "judge writes behind the tree")?;
-                Ok(Verdict::Breaks(Vec::from_slice(heap, tree)?))
+            Ok(Verdict::Breaks(words)) => {
+                let (tree, rest) = self.tree.split_at_checked(words).context(NO_CALL)?;
+                ensure!(untouched(rest), "judge writes behind the tree");
+                Ok(Some(Vec::from_slice(heap, tree)?))
             }
-            _ => Err(anyhow!("judge gives no verdict")),
+            Err(_) => bail!("judge gives no verdict"),
         }
     }
 }
@@ -109,8 +104,8 @@ fn tree_breaks(heap: Global, job: &Job, words: &[u32]) -> anyhow::Result<bool> {
     let Some(trees) = read_tree(heap, words)? else {
         return Ok(false);
     };
-    let rows = kinds_of(heap, job, trees.as_slice())?;
-    Ok(breaks(job, rows.row(trees.len().saturating_sub(1))))
+    let rows = kinds_of(heap, job, &trees)?;
+    Ok(rows.last().is_some_and(|kinds| breaks(job, kinds)))
 }
 
 // Holds the tree that `judge` gives to the least one that was found, if one was.
@@ -121,19 +116,19 @@ fn check_tree(
     least: Option<usize>,
     forest: &Forest,
 ) -> anyhow::Result<()> {
-    match least {
-        Some(place) => holds(tree == forest.row(place), "another tree is the least"),
-        None => {
-            holds(
-                tree.len() > forest.longest,
-                "a tree that was tried, and does not break",
-            )?;
-            holds(
-                tree_breaks(heap, job, tree)?,
-                "the tree does not break the job",
-            )
-        }
+    if let Some(place) = least {
+        ensure!(tree == forest.row(place), "another tree is the least");
+        return Ok(());
     }
+    ensure!(
+        tree.len() > forest.longest,
+        "a tree that was tried, and does not break"
+    );
+    ensure!(
+        tree_breaks(heap, job, tree)?,
+        "the tree does not break the job"
+    );
+    Ok(())
 }
 
 // Holds a verdict to what was found by trying.
@@ -142,40 +137,43 @@ fn check_verdict(
     job: &Job,
     forest: &Forest,
     tried: Tried,
-    verdict: &Verdict,
+    verdict: Option<&[u32]>,
 ) -> anyhow::Result<()> {
     match verdict {
-        Verdict::Fits => {
-            holds(tried.least.is_none(), "a tree that was tried breaks it")?;
-            holds(!tried.some_breaks, "some tree breaks it")
+        None => {
+            ensure!(tried.least.is_none(), "a tree that was tried breaks it");
+            ensure!(!tried.some_breaks, "some tree breaks it");
+            Ok(())
         }
-        Verdict::Breaks(tree) => {
-            holds(tried.some_breaks, "no tree breaks it")?;
-            check_tree(heap, job, tree.as_slice(), tried.least, forest)
+        Some(tree) => {
+            ensure!(tried.some_breaks, "no tree breaks it");
+            check_tree(heap, job, tree, tried.least, forest)
         }
     }
 }
 
-// Holds each answer of `judge` to what was found by trying. There are as many classes as the least number for which it
-// does not say many.
+// Holds each answer of `judge` to what was found by trying, and gives the tree that breaks the job, if one does. There are
+// as many classes as the least number for which it does not say many.
 pub fn judge_job(
     heap: Global,
     job: &Job,
     words: &[u32],
     forest: &Forest,
     tried: Tried,
-) -> anyhow::Result<Verdict> {
+) -> anyhow::Result<Option<Vec<u32>>> {
     let classes = tried.classes;
     let mut judging = Judging::new(heap, words, classes)?;
-    holds(tried.seen <= classes, "fewer classes than were met")?;
-    judging.many(0)?;
-    judging.many(tried.seen.saturating_sub(1))?;
-    judging.many(classes.saturating_sub(1))?;
-    judging.few(classes)?;
+    ensure!(tried.seen <= classes, "fewer classes than were met");
+    for most in [0, tried.seen.saturating_sub(1), classes.saturating_sub(1)] {
+        judging.refuses(Lent::with(most), Unjudged::Many)?;
+    }
+    let whole = Lent::with(classes);
+    judging.refuses(Lent { lacks: 1, ..whole }, Unjudged::Few)?;
     let verdict = judging.verdict(heap, classes)?;
-    check_verdict(heap, job, forest, tried, &verdict)?;
-    if let Verdict::Breaks(tree) = &verdict {
-        judging.full(classes, tree.len())?;
+    check_verdict(heap, job, forest, tried, verdict.as_deref())?;
+    if let Some(tree) = &verdict {
+        let room = tree.len().saturating_sub(1);
+        judging.refuses(Lent { room, ..whole }, Unjudged::OutFull)?;
     }
     Ok(verdict)
 }

@@ -3,7 +3,7 @@
 use crate::jobs::{Job, Pattern, Side, Type};
 use crate::trees::Tree;
 use anyhow::Context;
-use std::alloc::{AllocError, Global};
+use std::alloc::Global;
 
 pub const NO_KIND: &str = "a tree without kinds";
 
@@ -16,83 +16,48 @@ fn pattern_kind(pattern: &Pattern, to: &Type, left: &[u32], right: &[u32]) -> Op
             let y = pattern_kind(y, to, left, right)?;
             to.node(*mark, x, y)
         }
-        Pattern::Part(state, Side::Left) => left.get((*state as usize).saturating_add(1)).copied(),
-        Pattern::Part(state, Side::Right) => {
-            right.get((*state as usize).saturating_add(1)).copied()
+        Pattern::Part(state, side) => {
+            let part = match side {
+                Side::Left => left,
+                Side::Right => right,
+            };
+            part.get((*state as usize).saturating_add(1)).copied()
         }
     }
 }
 
-// The kinds of a leaf, into `kinds`; none where a table lacks one, or memory ends.
-pub fn leaf_kinds(job: &Job, mark: u32, kinds: &mut Vec<u32>) -> Option<()> {
-    kinds.clear();
-    kinds.push(job.from.leaf(mark)?).ok()?;
-    for state in 0..job.turn.states {
-        let pattern = job.leaf_pattern(state, mark)?;
-        kinds.push(pattern_kind(pattern, &job.to, &[], &[])?).ok()?;
-    }
-    Some(())
-}
-
-// The kinds of a node, by those of its parts, into `kinds`.
-pub fn node_kinds(
-    job: &Job,
-    mark: u32,
-    left: &[u32],
-    right: &[u32],
-    kinds: &mut Vec<u32>,
-) -> Option<()> {
-    kinds.clear();
-    let own = job.from.node(mark, *left.first()?, *right.first()?)?;
+// The kinds of a tree, by those of the trees that its parts are; none where a table lacks one, or memory ends.
+pub fn tree_kinds(heap: Global, job: &Job, tree: Tree, rows: &[Vec<u32>]) -> Option<Vec<u32>> {
+    let (own, left, right): (u32, &[u32], &[u32]) = match tree {
+        Tree::Leaf(mark) => (job.from.leaf(mark)?, &[], &[]),
+        Tree::Node(mark, left, right) => {
+            let left = rows.get(left)?;
+            let right = rows.get(right)?;
+            (
+                job.from.node(mark, *left.first()?, *right.first()?)?,
+                left,
+                right,
+            )
+        }
+    };
+    let states = job.turn.states as usize;
+    let mut kinds = Vec::with_capacity(heap, states.saturating_add(1)).ok()?;
     kinds.push(own).ok()?;
     for state in 0..job.turn.states {
-        let pattern = job.node_pattern(state, mark)?;
+        let pattern = job.pattern(state, tree)?;
         kinds
             .push(pattern_kind(pattern, &job.to, left, right)?)
             .ok()?;
     }
-    Some(())
-}
-
-// Rows of kinds, one behind the other.
-#[derive(Drop)]
-pub struct KindRows {
-    width: usize,
-    kinds: Vec<u32>,
-}
-
-impl KindRows {
-    pub fn new(heap: Global, job: &Job) -> KindRows {
-        KindRows {
-            width: (job.turn.states as usize).saturating_add(1),
-            kinds: Vec::new(heap),
-        }
-    }
-
-    pub fn row(&self, at: usize) -> &[u32] {
-        let start = at.saturating_mul(self.width);
-        let end = start.saturating_add(self.width);
-        self.kinds.as_slice().get(start..end).unwrap_or(&[])
-    }
-
-    pub fn push(&mut self, row: &[u32]) -> Result<(), AllocError> {
-        self.kinds.extend_from_slice(row)
-    }
+    Some(kinds)
 }
 
 // The kinds of each tree, parts before the trees that they are of.
-pub fn kinds_of(heap: Global, job: &Job, trees: &[Tree]) -> anyhow::Result<KindRows> {
-    let mut rows = KindRows::new(heap, job);
-    let mut kinds = Vec::new(heap);
+pub fn kinds_of(heap: Global, job: &Job, trees: &[Tree]) -> anyhow::Result<Vec<Vec<u32>>> {
+    let mut rows = Vec::with_capacity(heap, trees.len())?;
     for tree in trees {
-        match *tree {
-            Tree::Leaf(mark) => leaf_kinds(job, mark, &mut kinds),
-            Tree::Node(mark, left, right) => {
-                node_kinds(job, mark, rows.row(left), rows.row(right), &mut kinds)
-            }
-        }
-        .context(NO_KIND)?;
-        rows.push(kinds.as_slice())?;
+        let kinds = tree_kinds(heap, job, *tree, &rows).context(NO_KIND)?;
+        rows.push(kinds)?;
     }
     Ok(rows)
 }
@@ -110,44 +75,5 @@ pub fn breaks(job: &Job, kinds: &[u32]) -> bool {
     match kinds {
         [own, made, ..] => job.from.wants(*own) && !job.to.wants(*made),
         _ => false,
-    }
-}
-
-// Which rows of kinds have been met.
-#[derive(Drop)]
-pub struct Met {
-    base: u32,
-    seen: Vec<bool>,
-    pub count: u32,
-}
-
-impl Met {
-    pub fn new(heap: Global, job: &Job) -> Result<Met, AllocError> {
-        let base = job.from.kinds.max(job.to.kinds);
-        let mut size = base as usize;
-        for _ in 0..job.turn.states {
-            size = size.saturating_mul(base as usize);
-        }
-        Ok(Met {
-            base,
-            seen: vec![in heap; false; size]?,
-            count: 0,
-        })
-    }
-
-    // Meets one more, and says whether it is met for the first time.
-    pub fn meet(&mut self, kinds: &[u32]) -> Option<bool> {
-        let mut number = 0usize;
-        for kind in kinds {
-            number = number.saturating_mul(self.base as usize);
-            number = number.saturating_add(*kind as usize);
-        }
-        let seen = self.seen.get_mut(number)?;
-        let first = !*seen;
-        *seen = true;
-        if first {
-            self.count = self.count.saturating_add(1);
-        }
-        Some(first)
     }
 }

@@ -14,11 +14,11 @@ mod trees;
 mod tried;
 mod turning;
 
-use anyhow::{Context, anyhow};
+use anyhow::{Context, bail};
 use cases::check_cases;
 use counts::Counts;
 use jobs::Job;
-use judging::{Verdict, judge_job};
+use judging::judge_job;
 use kinds::kinds_of;
 use random::Random;
 use std::env;
@@ -26,22 +26,21 @@ use trees::Forest;
 use tried::try_trees;
 use turning::turn_trees;
 
-// Compares all answers on one job.
+// Compares all answers on one job, and gives the tree that breaks it, if one does.
 fn compare(
     rt: &HostRuntime,
     job: &Job,
     forest: &Forest,
     counts: &mut Counts,
-) -> anyhow::Result<Verdict> {
+) -> anyhow::Result<Option<Vec<u32>>> {
     let heap = rt.alloc();
     let words = job.row(heap)?;
-    let trees = forest.trees.as_slice();
-    let rows = kinds_of(heap, job, trees)?;
-    let tried = try_trees(heap, job, &rows, trees.len())?;
-    let verdict = judge_job(heap, job, words.as_slice(), forest, tried)?;
-    turn_trees(heap, job, words.as_slice(), forest, &rows, counts)?;
-    counts.judged(tried, &verdict, forest.longest);
-    counts.trees = counts.trees.saturating_add(trees.len() as u64);
+    let rows = kinds_of(heap, job, &forest.trees)?;
+    let tried = try_trees(heap, job, &rows)?;
+    let verdict = judge_job(heap, job, &words, forest, tried)?;
+    turn_trees(heap, job, &words, forest, &rows, counts)?;
+    counts.judged(tried, verdict.as_deref(), forest.longest);
+    counts.trees = counts.trees.saturating_add(rows.len() as u64);
     Ok(verdict)
 }
 
@@ -51,19 +50,17 @@ pub fn compared(
     job: &Job,
     forests: &[Forest],
     counts: &mut Counts,
-) -> anyhow::Result<Verdict> {
+) -> anyhow::Result<Option<Vec<u32>>> {
     let place = (job.marks as usize).saturating_sub(1);
     let forest = forests
         .get(place)
         .context("more marks than were thought of")?;
-    match compare(rt, job, forest, counts) {
-        Ok(verdict) => Ok(verdict),
-        Err(error) => {
-            let words = job.row(rt.alloc())?;
-            println!(rt; "{error}\n{words:?}\n{job}")?;
-            Err(error)
-        }
+    let verdict = compare(rt, job, forest, counts);
+    if let Err(error) = &verdict {
+        let words = job.row(rt.alloc())?;
+        println!(rt; "{error}\n{words:?}\n{job}")?;
     }
+    verdict
 }
 
 // All trees of at most nine leaves and nodes with one, two or three marks; with one mark, of at most 21.
@@ -79,7 +76,7 @@ fn forests(rt: &HostRuntime) -> anyhow::Result<Vec<Forest>> {
 fn asked(rt: &HostRuntime) -> anyhow::Result<(u64, u32)> {
     let mut args = env::args(rt)?.skip(1);
     let (Some(seed), Some(jobs)) = (args.next(), args.next()) else {
-        return Err(anyhow!("usage: trial SEED JOBS"));
+        bail!("usage: trial SEED JOBS");
     };
     Ok((seed.as_str().parse::<u64>()?, jobs.as_str().parse::<u32>()?))
 }

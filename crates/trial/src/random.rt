@@ -31,29 +31,23 @@ impl Random {
     }
 
     fn table(&mut self, heap: Global, size: u32, kinds: u32) -> Result<Vec<u32>, AllocError> {
-        let mut table = Vec::new(heap);
-        for _ in 0..size {
-            table.push(self.below(kinds))?;
-        }
-        Ok(table)
+        (0..size).map(|_| self.below(kinds)).collect(heap)
     }
 
     // One kind alone, or all but one, from the last to the first; now and then any of them.
     fn wanted(&mut self, heap: Global, kinds: u32, alone: bool) -> Result<Vec<u32>, AllocError> {
         let one = self.below(kinds);
         let any = self.chance(1, 8);
-        let mut wanted = Vec::new(heap);
-        for kind in (0..kinds).rev() {
-            let wants = if any {
-                self.chance(1, 2)
-            } else {
-                (kind == one) == alone
-            };
-            if wants {
-                wanted.push(kind)?;
-            }
-        }
-        Ok(wanted)
+        (0..kinds)
+            .rev()
+            .filter(|kind| {
+                if any {
+                    self.chance(1, 2)
+                } else {
+                    (*kind == one) == alone
+                }
+            })
+            .collect(heap)
     }
 
     // One to four kinds, more often four.
@@ -100,11 +94,9 @@ impl Random {
         states: u32,
         count: u32,
     ) -> Result<Vec<Pattern>, AllocError> {
-        let mut patterns = Vec::new(heap);
-        for _ in 0..count {
-            patterns.push(self.pattern(heap, marks, states, 4)?)?;
-        }
-        Ok(patterns)
+        (0..count)
+            .map(|_| self.pattern(heap, marks, states, 4))
+            .try_collect(heap)
     }
 
     // One to three marks, more often one, so that the trees that break some jobs are large, and one to three states.

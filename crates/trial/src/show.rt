@@ -1,19 +1,16 @@
 // A job in its readable form, with numbers for marks, kinds and states.
 use crate::jobs::{Job, Pattern, Side, Type};
+use crate::trees::Tree;
 use std::fmt;
 
-fn show_pattern<W: fmt::Write>(pattern: &Pattern, f: &mut fmt::Formatter<W>) -> fmt::Result {
-    match pattern {
-        Pattern::Leaf(mark) => write!(f, "{mark}"),
-        Pattern::Node(mark, left, right) => {
-            write!(f, "{mark}(")?;
-            show_pattern(left, f)?;
-            f.write_str(", ")?;
-            show_pattern(right, f)?;
-            f.write_str(")")
+impl fmt::Display for Pattern {
+    fn fmt<W: fmt::Write>(&self, f: &mut fmt::Formatter<W>) -> fmt::Result {
+        match self {
+            Pattern::Leaf(mark) => write!(f, "{mark}"),
+            Pattern::Node(mark, left, right) => write!(f, "{mark}({left}, {right})"),
+            Pattern::Part(state, Side::Left) => write!(f, "{state}(left)"),
+            Pattern::Part(state, Side::Right) => write!(f, "{state}(right)"),
         }
-        Pattern::Part(state, Side::Left) => write!(f, "{state}(left)"),
-        Pattern::Part(state, Side::Right) => write!(f, "{state}(right)"),
     }
 }
 
@@ -24,60 +21,60 @@ fn show_state<W: fmt::Write>(
     mark: u32,
     f: &mut fmt::Formatter<W>,
 ) -> fmt::Result {
-    if let Some(pattern) = job.leaf_pattern(state, mark) {
-        write!(f, "  {state}({mark}) -> ")?;
-        show_pattern(pattern, f)?;
+    if let Some(pattern) = job.pattern(state, Tree::Leaf(mark)) {
+        write!(f, "  {state}({mark}) -> {pattern}")?;
     }
-    if let Some(pattern) = job.node_pattern(state, mark) {
-        write!(f, "\n  {state}({mark}(left, right)) -> ")?;
-        show_pattern(pattern, f)?;
+    if let Some(pattern) = job.pattern(state, Tree::Node(mark, 0, 0)) {
+        write!(f, "\n  {state}({mark}(left, right)) -> {pattern}")?;
     }
     f.write_str("\n")
 }
 
-// The rules of a type at a mark and a left part of this kind.
-fn show_kinds<W: fmt::Write>(
-    a: &Type,
-    mark: u32,
-    left: u32,
-    f: &mut fmt::Formatter<W>,
-) -> fmt::Result {
-    for right in 0..a.kinds {
-        let kind = a.node(mark, left, right).unwrap_or(0);
-        writeln!(f, "  {mark}({left}, {right}) -> {kind}")?;
+impl Type {
+    // The rules of a type at a mark and a left part of this kind.
+    fn show_kinds<W: fmt::Write>(
+        &self,
+        mark: usize,
+        left: u32,
+        f: &mut fmt::Formatter<W>,
+    ) -> fmt::Result {
+        let mark = u32::try_from(mark).unwrap_or(u32::MAX);
+        for right in 0..self.kinds {
+            let kind = self.node(mark, left, right).unwrap_or(0);
+            writeln!(f, "  {mark}({left}, {right}) -> {kind}")?;
+        }
+        Ok(())
     }
-    Ok(())
 }
 
-fn show_type<W: fmt::Write>(a: &Type, marks: u32, f: &mut fmt::Formatter<W>) -> fmt::Result {
-    let kinds = a.kinds;
-    writeln!(f, " {{\n  kinds {kinds}")?;
-    for mark in 0..marks {
-        let kind = a.leaf(mark).unwrap_or(0);
-        writeln!(f, "  {mark} -> {kind}")?;
-        for left in 0..kinds {
-            show_kinds(a, mark, left, f)?;
+impl fmt::Display for Type {
+    fn fmt<W: fmt::Write>(&self, f: &mut fmt::Formatter<W>) -> fmt::Result {
+        let kinds = self.kinds;
+        writeln!(f, " {{\n  kinds {kinds}")?;
+        for (mark, kind) in self.leaves.iter().enumerate() {
+            writeln!(f, "  {mark} -> {kind}")?;
+            for left in 0..kinds {
+                self.show_kinds(mark, left, f)?;
+            }
         }
+        f.write_str("  wanted")?;
+        for kind in &self.wanted {
+            write!(f, " {kind}")?;
+        }
+        f.write_str("\n}\n")
     }
-    f.write_str("  wanted")?;
-    for kind in a.wanted.iter() {
-        write!(f, " {kind}")?;
-    }
-    f.write_str("\n}\n")
 }
 
 impl fmt::Display for Job {
     fn fmt<W: fmt::Write>(&self, f: &mut fmt::Formatter<W>) -> fmt::Result {
         let (marks, states) = (self.marks, self.turn.states);
-        write!(f, "marks {marks}\nfrom")?;
-        show_type(&self.from, marks, f)?;
-        write!(f, "turn {{\n  states {states}\n")?;
+        let (from, to) = (&self.from, &self.to);
+        write!(f, "marks {marks}\nfrom{from}turn {{\n  states {states}\n")?;
         for state in 0..states {
             for mark in 0..marks {
                 show_state(self, state, mark, f)?;
             }
         }
-        f.write_str("}\nto")?;
-        show_type(&self.to, marks, f)
+        write!(f, "}}\nto{to}")
     }
 }

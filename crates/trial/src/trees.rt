@@ -2,6 +2,7 @@
 use std::alloc::{AllocError, Global};
 use std::ops::Range;
 
+// Parts are named by their places, not owned: trees share them, and what is worked out of a part is worked out once.
 #[derive(Clone, Copy)]
 pub enum Tree {
     Leaf(u32),
@@ -33,36 +34,32 @@ pub fn read_tree(heap: Global, words: &[u32]) -> Result<Option<Vec<Tree>>, Alloc
 // All trees with so many marks, by their size and then in the order of trees.
 #[derive(Drop)]
 pub struct Forest {
-    pub marks: u32,
+    heap: Global,
+    marks: u32,
     // the words of the largest
     pub longest: usize,
     pub trees: Vec<Tree>,
+    rows: Vec<Vec<u32>>,
     // where the trees with so many nodes begin, and where the last of them end
     starts: Vec<usize>,
-    // the rows of the trees, and where each begins
-    words: Vec<u32>,
-    rows: Vec<usize>,
 }
 
 impl Forest {
     // All trees of at most so many nodes, and one leaf more.
     pub fn new(heap: Global, marks: u32, nodes: usize) -> Result<Forest, AllocError> {
         let mut forest = Forest {
+            heap,
             marks,
             longest: nodes.saturating_mul(4).saturating_add(2),
             trees: Vec::new(heap),
-            starts: vec![in heap; 0usize]?,
-            words: Vec::new(heap),
-            rows: vec![in heap; 0usize]?,
+            rows: Vec::new(heap),
+            starts: Vec::new(heap),
         };
-        for mark in 0..marks {
-            forest.push(Tree::Leaf(mark))?;
+        for n in 0..=nodes {
+            forest.starts.push(forest.trees.len())?;
+            forest.push_size(n)?;
         }
         forest.starts.push(forest.trees.len())?;
-        for n in 1..nodes.saturating_add(1) {
-            forest.push_size(n)?;
-            forest.starts.push(forest.trees.len())?;
-        }
         Ok(forest)
     }
 
@@ -75,14 +72,18 @@ impl Forest {
 
     fn push_size(&mut self, nodes: usize) -> Result<(), AllocError> {
         for mark in 0..self.marks {
-            for left_nodes in 0..nodes {
-                let right_nodes = nodes - 1 - left_nodes;
-                self.push_pairs(
-                    mark,
-                    self.with_nodes(left_nodes),
-                    self.with_nodes(right_nodes),
-                )?;
+            match nodes.checked_sub(1) {
+                None => self.push(Tree::Leaf(mark))?,
+                Some(below) => self.push_splits(mark, below)?,
             }
+        }
+        Ok(())
+    }
+
+    // The nodes with a mark whose parts have so many nodes together.
+    fn push_splits(&mut self, mark: u32, below: usize) -> Result<(), AllocError> {
+        for left in 0..=below {
+            self.push_pairs(mark, self.with_nodes(left), self.with_nodes(below - left))?;
         }
         Ok(())
     }
@@ -94,7 +95,7 @@ impl Forest {
         rights: Range<usize>,
     ) -> Result<(), AllocError> {
         for left in lefts {
-            for right in rights.start..rights.end {
+            for right in rights.clone()? {
                 self.push(Tree::Node(mark, left, right))?;
             }
         }
@@ -102,41 +103,24 @@ impl Forest {
     }
 
     fn push(&mut self, tree: Tree) -> Result<(), AllocError> {
-        self.trees.push(tree)?;
+        let mut row = Vec::new(self.heap);
         match tree {
-            Tree::Leaf(mark) => self.words.extend_from_slice(&[0, mark])?,
+            Tree::Leaf(mark) => row.extend_from_slice(&[0, mark])?,
             Tree::Node(mark, left, right) => {
-                self.words.extend_from_slice(&[1, mark])?;
-                self.repeat(left)?;
-                self.repeat(right)?;
+                row.extend_from_slice(&[1, mark])?;
+                row.extend_from_slice(self.row(left))?;
+                row.extend_from_slice(self.row(right))?;
             }
         }
-        self.rows.push(self.words.len())?;
-        Ok(())
-    }
-
-    // Where the row of a tree stands.
-    fn span(&self, tree: usize) -> Range<usize> {
-        let start = self.rows.get(tree).copied().unwrap_or(0);
-        let end = self.rows.get(tree.saturating_add(1)).copied();
-        start..end.unwrap_or(start)
-    }
-
-    // The row of a tree once more.
-    fn repeat(&mut self, tree: usize) -> Result<(), AllocError> {
-        let span = self.span(tree);
-        for at in span.start..span.end {
-            let word = self.words.get(at).copied().unwrap_or(0);
-            self.words.push(word)?;
-        }
+        self.trees.push(tree)?;
+        self.rows.push(row)?;
         Ok(())
     }
 
     pub fn row(&self, tree: usize) -> &[u32] {
-        let span = self.span(tree);
-        self.words
-            .as_slice()
-            .get(span.start..span.end)
-            .unwrap_or(&[])
+        match self.rows.get(tree) {
+            Some(row) => row,
+            None => &[],
+        }
     }
 }

@@ -1,8 +1,10 @@
 // What trying tells of a job: the least tree that breaks it among those tried, and its classes.
 use crate::jobs::Job;
-use crate::kinds::{KindRows, Met, NO_KIND, breaks, leaf_kinds, node_kinds};
+use crate::kinds::{NO_KIND, breaks, tree_kinds};
+use crate::trees::Tree;
 use anyhow::Context;
-use std::alloc::Global;
+use std::alloc::{AllocError, Global};
+use std::collections::HashSet;
 
 #[derive(Clone, Copy)]
 pub struct Tried {
@@ -16,82 +18,83 @@ pub struct Tried {
     pub some_breaks: bool,
 }
 
-// By the kinds of so many trees in their order.
-pub fn try_trees(heap: Global, job: &Job, rows: &KindRows, trees: usize) -> anyhow::Result<Tried> {
-    let closure = Closure::of(heap, job)?;
-    let mut met = Met::new(heap, job)?;
-    let mut least = None;
-    for tree in 0..trees {
-        let kinds = rows.row(tree);
-        met.meet(kinds).context(NO_KIND)?;
-        if least.is_none() && breaks(job, kinds) {
-            least = Some(tree);
+fn counted(classes: usize) -> u32 {
+    u32::try_from(classes).unwrap_or(u32::MAX)
+}
+
+// The different rows of kinds among these.
+fn different(heap: Global, rows: &[Vec<u32>]) -> Result<HashSet<Vec<u32>>, AllocError> {
+    let mut met = HashSet::new(heap);
+    for kinds in rows {
+        if !met.contains(kinds) {
+            met.insert(kinds.clone()?)?;
         }
     }
+    Ok(met)
+}
+
+// By the kinds of trees in their order.
+pub fn try_trees(heap: Global, job: &Job, rows: &[Vec<u32>]) -> anyhow::Result<Tried> {
+    let all = Closure::of(heap, job)?;
     Ok(Tried {
-        least,
-        seen: met.count,
-        classes: closure.met.count,
-        some_breaks: closure.some_breaks(job),
+        least: rows.iter().position(|kinds| breaks(job, kinds)),
+        seen: counted(different(heap, rows)?.len()),
+        classes: counted(all.rows.len()),
+        some_breaks: all.rows.iter().any(|kinds| breaks(job, kinds)),
     })
 }
 
 // The classes of trees of any size, one row of kinds for each: those of the leaves, and with any two those of the nodes.
 #[derive(Drop)]
 struct Closure {
-    rows: KindRows,
-    met: Met,
+    heap: Global,
+    rows: Vec<Vec<u32>>,
+    met: HashSet<Vec<u32>>,
 }
 
 impl Closure {
     fn of(heap: Global, job: &Job) -> anyhow::Result<Closure> {
         let mut closure = Closure {
-            rows: KindRows::new(heap, job),
-            met: Met::new(heap, job)?,
+            heap,
+            rows: Vec::new(heap),
+            met: HashSet::new(heap),
         };
-        let mut kinds = Vec::new(heap);
         for mark in 0..job.marks {
-            leaf_kinds(job, mark, &mut kinds).context(NO_KIND)?;
-            closure.add(kinds.as_slice()).context(NO_KIND)?;
+            closure.add(job, Tree::Leaf(mark))?;
         }
-        for at in 0..usize::MAX {
-            if at >= closure.len() {
-                break;
-            }
-            closure.add_nodes(job, at, &mut kinds).context(NO_KIND)?;
-        }
+        closure.add_all(job)?;
         Ok(closure)
     }
 
-    fn len(&self) -> usize {
-        self.met.count as usize
+    // The class of a tree whose parts are classes, unless it is there.
+    fn add(&mut self, job: &Job, tree: Tree) -> anyhow::Result<()> {
+        let kinds = tree_kinds(self.heap, job, tree, &self.rows).context(NO_KIND)?;
+        if !self.met.contains(&kinds) {
+            self.met.insert(kinds.clone()?).map_err(AllocError::from)?;
+            self.rows.push(kinds)?;
+        }
+        Ok(())
     }
 
-    fn add(&mut self, kinds: &[u32]) -> Option<()> {
-        if self.met.meet(kinds)? {
-            self.rows.push(kinds).ok()?;
+    // A class may bring others, and the loop goes on as long as there are some: a range as long as any gives it its end.
+    fn add_all(&mut self, job: &Job) -> anyhow::Result<()> {
+        for at in 0..usize::MAX {
+            if at >= self.rows.len() {
+                break;
+            }
+            self.add_nodes(job, at)?;
         }
-        Some(())
+        Ok(())
     }
 
     // The nodes of one class with each up to it, on both sides.
-    fn add_nodes(&mut self, job: &Job, at: usize, kinds: &mut Vec<u32>) -> Option<()> {
-        for other in 0..at.saturating_add(1) {
+    fn add_nodes(&mut self, job: &Job, at: usize) -> anyhow::Result<()> {
+        for other in 0..=at {
             for mark in 0..job.marks {
-                node_kinds(job, mark, self.rows.row(at), self.rows.row(other), kinds)?;
-                self.add(kinds.as_slice())?;
-                node_kinds(job, mark, self.rows.row(other), self.rows.row(at), kinds)?;
-                self.add(kinds.as_slice())?;
+                self.add(job, Tree::Node(mark, at, other))?;
+                self.add(job, Tree::Node(mark, other, at))?;
             }
         }
-        Some(())
-    }
-
-    fn some_breaks(&self, job: &Job) -> bool {
-        let mut some = false;
-        for at in 0..self.len() {
-            some = some || breaks(job, self.rows.row(at));
-        }
-        some
+        Ok(())
     }
 }

@@ -1,11 +1,11 @@
 // Turning by plain recursion, and the call `turn` held to it.
 use crate::counts::Counts;
 use crate::jobs::{Job, Pattern, Side};
-use crate::kinds::{KindRows, comes};
+use crate::kinds::comes;
 use crate::trees::{Forest, Tree};
-use anyhow::{Context, anyhow};
+use anyhow::{Context, ensure};
 use std::alloc::{AllocError, Global};
-use turned::{Done, turn};
+use turned::{Done, Unturned, turn};
 
 // The room for a result. A longer one is filled in up to here, and is `full`.
 const ROOM: usize = 128;
@@ -19,12 +19,7 @@ const DEEPEST: u32 = 10_000;
 const NOT_TURNED: &str = "a tree could not be turned";
 
 pub fn untouched(words: &[u32]) -> bool {
-    for word in words {
-        if *word != UNTOUCHED {
-            return false;
-        }
-    }
-    true
+    words.iter().all(|word| *word == UNTOUCHED)
 }
 
 // A job, and trees that it is used on.
@@ -40,13 +35,6 @@ impl<'a> Filling<'a> {
             (Tree::Leaf(_), _) => None,
             (Tree::Node(_, left, _), Side::Left) => self.trees.get(left).copied(),
             (Tree::Node(_, _, right), Side::Right) => self.trees.get(right).copied(),
-        }
-    }
-
-    fn pattern(self, state: u32, tree: Tree) -> Option<&'a Pattern> {
-        match tree {
-            Tree::Leaf(mark) => self.job.leaf_pattern(state, mark),
-            Tree::Node(mark, _, _) => self.job.node_pattern(state, mark),
         }
     }
 
@@ -67,7 +55,7 @@ impl<'a> Filling<'a> {
             }
             Pattern::Part(state, side) => {
                 let part = self.part(tree, *side)?;
-                self.fill(self.pattern(*state, part)?, part, depth - 1, out)
+                self.fill(self.job.pattern(*state, part)?, part, depth - 1, out)
             }
         }
     }
@@ -76,7 +64,7 @@ impl<'a> Filling<'a> {
     pub fn result(self, tree: usize, out: &mut Vec<u32>) -> Option<()> {
         let tree = self.trees.get(tree).copied()?;
         out.clear();
-        self.fill(self.pattern(0, tree)?, tree, DEEPEST, out)
+        self.fill(self.job.pattern(0, tree)?, tree, DEEPEST, out)
     }
 }
 
@@ -100,8 +88,9 @@ impl<'a> Turning<'a> {
         })
     }
 
-    // One call with so many words of room and just the work words that are asked for.
+    // One call with so many words of room and just the work words that are asked for; none where a buffer is too small.
     fn call(&mut self, tree: &[u32], room: usize) -> Option<Done> {
+        self.out.as_mut_slice().fill(UNTOUCHED);
         let need = work_words(self.words.len(), tree.len());
         let out = self.out.as_mut_slice().get_mut(0..room)?;
         let work = self.work.as_mut_slice().get_mut(0..need)?;
@@ -110,66 +99,65 @@ impl<'a> Turning<'a> {
 
     // Whether out begins with the result, and goes on untouched.
     fn written(&self) -> bool {
-        let (mine, out) = (self.mine.as_slice(), self.out.as_slice());
-        out.get(0..mine.len()) == Some(mine) && untouched(out.get(mine.len()..ROOM).unwrap_or(&[]))
+        match self.out.strip_prefix(self.mine.as_slice()) {
+            Some(rest) => untouched(rest),
+            None => false,
+        }
     }
 
-    // Whether `turn` answers at a tree what the recursion says, with the answer.
-    fn answers(&mut self, tree: &[u32], comes: bool) -> Option<(bool, Done)> {
-        self.out.as_mut_slice().fill(UNTOUCHED);
-        let done = self.call(tree, ROOM)?;
+    // Whether the answer at a tree that comes in, or doesn't, is what the recursion says.
+    fn is_right(&self, done: Done, comes: bool) -> bool {
         let fits = self.mine.len() <= ROOM;
-        let right = match done {
-            Done::NotOf => !comes && untouched(self.out.as_slice()),
-            Done::Full => comes && !fits && untouched(self.out.as_slice()),
-            Done::Result(words) => { comes && fits && words == self.mine.len() && self.written() }
-            _ => false,
-        };
-        Some((right, done))
+        match done {
+            Ok(words) => comes && fits && words == self.mine.len() && self.written(),
+            Err(Unturned::NotOf) => !comes && untouched(&self.out),
+            Err(Unturned::Full) => comes && !fits && untouched(&self.out),
+            Err(_) => false,
+        }
     }
 
-    // Whether a room of one word less than the result is full.
+    // Whether a room of one word less than the result is full; none where a buffer is too small.
     fn refuses(&mut self, tree: &[u32], words: usize) -> Option<bool> {
-        self.out.as_mut_slice().fill(UNTOUCHED);
         let done = self.call(tree, words.checked_sub(1)?)?;
-        Some(matches!(done, Done::Full) && untouched(self.out.as_slice()))
+        Some(done == Err(Unturned::Full) && untouched(&self.out))
     }
 }
 
-// The work words that `turn` asks for.
+// The work words that `turn` asks for, by a formula of its own: a program that tries a call shares no code with it.
 fn work_words(job: usize, tree: usize) -> usize {
     let words = 4096 + 4 * job as u128 + 8 * tree as u128;
     usize::try_from(words).unwrap_or(usize::MAX)
 }
 
 // Holds `turn` to the recursion at each tree; and at some of those that have a result, with a room that is too short.
-pub fn turn_trees<'a>(
+pub fn turn_trees(
     heap: Global,
-    job: &'a Job,
+    job: &Job,
     words: &[u32],
-    forest: &'a Forest,
-    rows: &KindRows,
+    forest: &Forest,
+    rows: &[Vec<u32>],
     counts: &mut Counts,
 ) -> anyhow::Result<()> {
-    let trees = forest.trees.as_slice();
-    let filling = Filling { job, trees };
+    let filling = Filling {
+        job,
+        trees: &forest.trees,
+    };
     let mut turning = Turning::new(heap, words, forest.longest)?;
-    for tree in 0..trees.len() {
+    for (tree, kinds) in rows.iter().enumerate() {
         let row = forest.row(tree);
-        let comes = comes(job, rows.row(tree));
+        let comes = comes(job, kinds);
         if comes {
             filling.result(tree, &mut turning.mine).context(NOT_TURNED)?;
         }
-        let (mut right, done) = turning.answers(row, comes).context(NOT_TURNED)?;
-        if let Done::Result(words) = done
+        let done = turning.call(row, ROOM).context(NOT_TURNED)?;
+        let mut right = turning.is_right(done, comes);
+        if let Ok(words) = done
             && tree % 16 == 3
         {
             right = right && turning.refuses(row, words).context(NOT_TURNED)?;
             counts.short = counts.short.saturating_add(1);
         }
-        if !right {
-            return Err(anyhow!(format!(in heap; "turn answers otherwise at {row:?}")?));
-        }
+        ensure!(right, "turn answers otherwise at {row:?}");
         counts.turned(done);
     }
     Ok(())

@@ -1,0 +1,2 @@
+-- The words of jobs that are made of tables.
+pub mod Made
