@@ -30,7 +30,7 @@ fn tree_kind(heap: Global, job: &[u32], tree: &[u32]) -> Result<Option<u32>, All
     let mut index = vec![in heap; 0u32; job.len()]?;
     let mut ends = vec![in heap; 0u32; tree.len()]?;
     let mut kinds = vec![in heap; 0u32; tree.len()]?;
-    // no `?`: that the words are no job is an answer here, not an error
+    // no `and_then`: the reader's promise, which `KnownJob` asks for, is of this match
     let Ok(places) = read_job(job, &mut index) else {
         return Ok(None);
     };
@@ -39,12 +39,7 @@ fn tree_kind(heap: Global, job: &[u32], tree: &[u32]) -> Result<Option<u32>, All
         index: &index,
         places,
     };
-    Ok(read_tree(
-        known.from_type(),
-        tree,
-        &mut ends,
-        &mut kinds,
-    ))
+    Ok(read_tree(known.from_type(), tree, &mut ends, &mut kinds))
 }
 
 fn show_job(rt: &HostRuntime, name: &str, job: &[u32]) -> anyhow::Result<()> {
@@ -62,7 +57,8 @@ fn show_tree(rt: &HostRuntime, name: &str, tree: &[u32]) -> anyhow::Result<()> {
     Ok(())
 }
 
-// How many beginnings of a job are jobs themselves.
+// How many beginnings of a job are jobs themselves. (Counted in a `for`, here and below: each reading may fail, and a `try_fold` would
+// be no plainer.)
 fn beginnings(heap: Global, job: &[u32]) -> Result<u32, AllocError> {
     let mut jobs = 0u32;
     for n in 0..job.len() {

@@ -1,12 +1,13 @@
 // The call `turn`, on one case of each sort.
 use crate::jobs::{LARGEST, SAMPLE, job_of, right_comb};
-use made_jobs::{SWAP, TurnTables};
+use made_jobs::{LEFT_TWICE, SWAP, TWO_STATES, TurnTables};
 use turned::{turn, turn_words};
 
 // A longer room is not shown.
 const SHORT: usize = 20;
 
-// A call of `turn`: its job, its tree, and so many words of room, filled with nines.
+// A call of `turn`: its job, its tree, and so many words of room, filled with nines. (`judged_cases` has one of `judge`, which takes
+// and answers other things.)
 #[derive(Clone, Copy)]
 struct Case<'a> {
     job: &'a [u32],
@@ -73,22 +74,15 @@ fn patterns(rt: &HostRuntime) -> anyhow::Result<()> {
     Case::new(&exchange, &SAMPLE, 9).show(rt, "one word less")?;
     let none = job_of(heap, on_nodes(&[0, 1, 0, 1]))?;
     Case::new(&none, &SAMPLE, 2).show(rt, "no part used")?;
-    let nodes = [1, 1, 2, 0, 0, 2, 0, 0, 1, 1, 2, 0, 0, 2, 0, 0];
-    let twice = job_of(heap, on_nodes(&nodes))?;
+    let twice = job_of(heap, LEFT_TWICE)?;
     Case::new(&twice, &[1, 0, 0, 1, 0, 0], 6).show(rt, "the left part twice")?;
     let bare = job_of(heap, on_nodes(&[2, 0, 1, 2, 0, 1]))?;
     let long = right_comb(heap, 1_000_000)?;
     Case::new(&bare, &long, 4).show(rt, "nothing but the right part, a million times")
 }
 
-// State 0 keeps a leaf, and of a(l, r) makes a(state 1 of l, state 0 of r); state 1 makes a leaf 0 of everything.
 fn two_states(rt: &HostRuntime) -> anyhow::Result<()> {
-    let turn = TurnTables {
-        states: 2,
-        leaves: &[0, 0, 0, 1, 0, 0, 0, 0],
-        nodes: &[1, 0, 2, 1, 0, 2, 0, 1, 1, 1, 2, 1, 0, 2, 0, 1, 0, 0, 0, 0],
-    };
-    let job = job_of(rt.alloc(), turn)?;
+    let job = job_of(rt.alloc(), TWO_STATES)?;
     Case::new(&job, &[1, 0, 0, 1, 1, 1, 0, 1, 0, 1], 10).show(rt, "two states")
 }
 

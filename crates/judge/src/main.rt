@@ -6,6 +6,7 @@ use sources::{JobError, Limits, read_job};
 use std::alloc::AllocError;
 use std::process::ExitCode;
 use std::{env, fmt, io};
+use thiserror::Error;
 
 const USAGE: &str =
     "usage: judge JOB\nReads the job in the file JOB, and says how large it is, or where it is wrong.";
@@ -17,50 +18,31 @@ const LIMITS: Limits = Limits {
 };
 
 // Why there is no answer.
-#[derive(Debug, Drop)]
+#[derive(Debug, Drop, Error)]
 enum Failure {
+    #[error("{usage}", usage = USAGE)]
     Usage,
-    Memory,
+    #[error("judge: not enough memory")]
+    Memory(#[from(alloc)] AllocError),
+    #[error(transparent)]
     Job(JobError),
+    // in MiB here, and in bytes elsewhere
+    #[error("{file}: the file is larger than 1 MiB")]
+    TooLarge { file: String },
     // The words that were read from a file are no job.
+    #[error("{file}: no job")]
     NoJob { file: String },
-    Input(io::Error),
-}
-
-// By hand, since a file that is too large is told in MiB here, and in bytes elsewhere.
-impl fmt::Display for Failure {
-    fn fmt<W: fmt::Write>(&self, f: &mut fmt::Formatter<W>) -> fmt::Result {
-        match self {
-            Failure::Usage => f.write_str(USAGE),
-            Failure::Memory => f.write_str("judge: not enough memory"),
-            Failure::Job(JobError::TooLarge { file, most: _ }) => {
-                write!(f, "{file}: the file is larger than 1 MiB")
-            }
-            Failure::Job(error) => write!(f, "{error}"),
-            Failure::NoJob { file } => write!(f, "{file}: no job"),
-            Failure::Input(error) => write!(f, "judge: {error}"),
-        }
-    }
-}
-
-impl From<AllocError> for Failure {
-    fn from(_error: AllocError) -> Failure {
-        Failure::Memory
-    }
+    #[error("judge: {0}")]
+    Input(#[from] io::Error),
 }
 
 impl From<JobError> for Failure {
     fn from(error: JobError) -> Failure {
         match error {
-            JobError::Memory(_) => Failure::Memory,
+            JobError::Memory(error) => Failure::Memory(error),
+            JobError::TooLarge { file, most: _ } => Failure::TooLarge { file },
             error => Failure::Job(error),
         }
-    }
-}
-
-impl From<io::Error> for Failure {
-    fn from(error: io::Error) -> Failure {
-        Failure::Input(error)
     }
 }
 

@@ -1,5 +1,5 @@
 // The call `judge`, on the worked cases and at the limits of what is lent.
-use made_jobs::{JobTables, SWAP, TurnTables, TypeTables};
+use made_jobs::{JobTables, LEFT_TWICE, SWAP, TWO_STATES, TurnTables, TypeTables};
 use std::alloc::{AllocError, Global};
 use turned::{Judged, Unjudged, Verdict, judge, judge_words};
 
@@ -58,7 +58,7 @@ impl<'a> Case<'a> {
     }
 }
 
-// How many classes a job has: the least number that is not answered by `many`.
+// How many classes a job has: the least number that is not answered by `many`, or `MOST`. (A `for`, since each call may fail.)
 fn count_classes(heap: Global, job: &[u32]) -> Result<u32, AllocError> {
     for most in 0..MOST {
         let (answer, _) = Case::new(job, most).call(heap)?;
@@ -96,13 +96,6 @@ fn no_ones(wanted: &[u32]) -> TypeTables<'_> {
         wanted,
     }
 }
-
-// Two marks, one state, and a leaf stays; a node becomes its left part twice.
-const LEFT_TWICE: TurnTables<'static> = TurnTables {
-    states: 1,
-    leaves: &[0, 0, 0, 1],
-    nodes: &[1, 1, 2, 0, 0, 2, 0, 0, 1, 1, 2, 0, 0, 2, 0, 0],
-};
 
 // Everything becomes a leaf 0.
 const ZERO: TurnTables<'static> = TurnTables {
@@ -151,11 +144,6 @@ fn lists(rt: &HostRuntime) -> anyhow::Result<()> {
         ],
         wanted: &[0, 2],
     };
-    let turn = TurnTables {
-        states: 2,
-        leaves: &[0, 0, 0, 1, 0, 0, 0, 0],
-        nodes: &[1, 0, 2, 1, 0, 2, 0, 1, 1, 1, 2, 1, 0, 2, 0, 1, 0, 0, 0, 0],
-    };
     let zeros = TypeTables {
         kinds: 2,
         leaves: &[0, 1],
@@ -165,7 +153,7 @@ fn lists(rt: &HostRuntime) -> anyhow::Result<()> {
     let job = JobTables {
         marks: 2,
         from: list,
-        turn,
+        turn: TWO_STATES,
         to: zeros,
     };
     show(rt, "two states on lists", &job.words(rt.alloc())?)

@@ -30,6 +30,21 @@ pub struct TurnTables<'a> {
     pub nodes: &'a [u32],
 }
 
+// A turn of two states and two marks: state 0 keeps a leaf, and of a(l, r) makes a(state 1 of l, state 0 of r); state 1 makes a leaf 0 of
+// everything.
+pub const TWO_STATES: TurnTables<'static> = TurnTables {
+    states: 2,
+    leaves: &[0, 0, 0, 1, 0, 0, 0, 0],
+    nodes: &[1, 0, 2, 1, 0, 2, 0, 1, 1, 1, 2, 1, 0, 2, 0, 1, 0, 0, 0, 0],
+};
+
+// A turn of one state and two marks: a leaf stays, and a node becomes its left part twice.
+pub const LEFT_TWICE: TurnTables<'static> = TurnTables {
+    states: 1,
+    leaves: &[0, 0, 0, 1],
+    nodes: &[1, 1, 2, 0, 0, 2, 0, 0, 1, 1, 2, 0, 0, 2, 0, 0],
+};
+
 // The tables of a job.
 #[derive(Clone, Copy)]
 pub struct JobTables<'a> {

@@ -8,7 +8,7 @@ use crate::patterns::{Bounds, read_patterns};
 use crate::tables::{KnownType, TypePlaces, read_type};
 use crate::trees::Item;
 
-// How many marks a job, and how many states a turn may have.
+// How many marks a job, and how many states a turn may have. (Texts have a limit of their own: they tell the place.)
 pub const MOST_MARKS: u32 = 64;
 
 pub const MOST_STATES: u32 = 64;
@@ -21,7 +21,7 @@ pub struct TurnPlaces {
 }
 
 // Where the parts of a job stand. Where its patterns begin stands in an index: those for leaves, by state and mark,
-// then those for nodes, two words each.
+// then those for nodes, two words each. (The index is lent: the calls have no heap for a list of places.)
 #[derive(Clone, Copy, Debug, PartialEq, Eq)]
 pub struct JobPlaces {
     pub marks: u32,
@@ -99,7 +99,7 @@ pub fn read_job(words: &[u32], index: &mut [u32]) -> Result<JobPlaces, JobRefusa
 }
 
 impl JobPlaces {
-    // Where the pattern for a state and a leaf or a node begins.
+    // Where the pattern for a state and a leaf or a node begins. (Apart from that of a known job: what it promises is of places alone.)
     pub fn pattern(self, index: &[u32], item: Item, state: u32) -> usize
         requires room { 4 * (self.turn.states * self.marks) ≤ length index.now }
         requires state { state < self.turn.states }
@@ -129,7 +129,7 @@ pub struct KnownJob<'a> {
 impl<'a> KnownJob<'a> {
     ghost use Rattle.rows.specs.Known.{type_of, from_of, to_of};
 
-    // The job's first type.
+    // The job's first type. (The second's has the same form: one function for both would take a switch.)
     pub fn from_type(self) -> KnownType<'a>
         ensures says { type_of result ≡ from_of self.entry }
         ensures marks { result.marks ≡ self.entry.places.marks }

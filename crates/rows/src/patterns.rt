@@ -8,7 +8,7 @@ ghost use Rattle.rows.specs.Stepwise.{PatternOk};
 use crate::numbered::set_number;
 use crate::steps::{Step, step_at};
 
-// How deep a pattern may be, where a leaf is 1 deep.
+// How deep a pattern may be, where a leaf is 1 deep. (Texts have a limit of their own: they tell the place.)
 pub const MOST_DEEP: u32 = 64;
 
 // What a pattern may use: marks and states below these numbers, and parts or none.
@@ -39,7 +39,8 @@ pub fn pattern_end(words: &[u32], at: usize, deep: u32, b: Bounds) -> Option<usi
     }
 }
 
-// Reads so many patterns, one behind the other, and notes in the index where each begins, from number `first` on.
+// Reads so many patterns, one behind the other, and notes in the index where each begins, from number `first` on. (Leaves and nodes
+// have one index, and each its part of it: so it is told where to begin and how far.)
 pub fn read_patterns(
     words: &[u32],
     at: usize,

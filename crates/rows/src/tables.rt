@@ -5,10 +5,10 @@ ghost use Rattle.model.specs.Types.{contains, kind_of_leaf, kind_of_node, node_p
 ghost use Rattle.rows.specs.Standing.{Ends, slice};
 ghost use Rattle.rows.specs.Tables.{Table, TypeKnown, TypeRead};
 
-// How many kinds a type may have.
+// How many kinds a type may have. (Texts have a limit of their own: they tell the place.)
 pub const MOST_KINDS: u32 = 64;
 
-// Where the tables of a type stand.
+// Where the tables of a type stand. (Places and not slices: what is promised of them is of the whole row.)
 #[derive(Clone, Copy, Debug, PartialEq, Eq)]
 pub struct TypePlaces {
     pub kinds: u32,
@@ -61,7 +61,7 @@ pub fn read_type(words: &[u32], at: usize, marks: u32) -> Option<TypePlaces>
 }
 
 impl TypePlaces {
-    // Whether a kind is wanted.
+    // Whether a kind is wanted. (Apart from that of a known type: what it promises is of places alone.)
     pub fn wants(self, words: &[u32], kind: u32) -> bool
         requires before { self.wanted ≤ self.end }
         requires within { self.end ≤ length words.now }

@@ -46,7 +46,8 @@ pub fn item_at(tree: &[u32], i: usize) -> Option<Item>
     }
 }
 
-// The subtree that begins with the i-th of `count` leaves and nodes, where those behind it are known.
+// The subtree that begins with the i-th of `count` leaves and nodes, where those behind it are known. (`ends` and `kinds` are not one
+// value: both are written between two calls.)
 fn subtree_at(
     t: KnownType,
     tree: &[u32],
@@ -86,7 +87,7 @@ fn subtree_at(
 }
 
 // Reads a tree from the last leaf to the first node: its kind in a type, exactly if the words are a tree with the type's
-// marks. Notes where each subtree ends, two words each, and its kind.
+// marks. Notes where each subtree ends, two words each, and its kind, side by side in lent words: the calls have no heap.
 pub fn read_tree(t: KnownType, tree: &[u32], ends: &mut [u32], kinds: &mut [u32]) -> Option<u32>
     requires ends_room { length tree.now ≤ length ends.old }
     requires kinds_room { length tree.now ≤ 2 * length kinds.old }

@@ -143,6 +143,7 @@ fn write_out(table: &Table, out: &mut [u32])
     requires ranks { table.now.settled ≤ table.now.shape.most }
     requires rows { (r : ℕ) → r < table.now.settled → ranked_at table.now r < table.now.shape.most }
 {
+    // `next` by hand: behind a `zip` with the ranks it stayed open how long a row is (tried)
     let mut rows = out.chunks_exact_mut(1 + LINK + table.shape.words);
     for r in 0..table.settled {
         let Some(row) = rows.next() else {

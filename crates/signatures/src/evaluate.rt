@@ -96,7 +96,7 @@ fn sign(job: KnownJob, item: Item, parts: Parts, out: &mut [u32])
     ensures { out.new ≡ item_signature job.entry item parts.entry.left.now parts.entry.right.now }
 {
     out[0] = first_kind(job, item, parts);
-    // by number, not over `out` as it is written: behind `iter_mut` nothing is known of what was written
+    // by number, not over `out` as it is written: behind an adapter of `iter_mut` nothing is known of what was written
     for q in 0..job.places.turn.states {
         let value = evaluate(job, job.pattern(item, q), MOST_DEEP, parts);
         out[q as usize + 1] = value.kind;

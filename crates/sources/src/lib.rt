@@ -58,6 +58,7 @@ pub fn parse_job(heap: Global, file: String, bytes: &[u8], limits: Limits) -> Re
             most: limits.bytes,
         });
     }
+    // a match, here and below: both ways need `file`, which the closure of a `map_err` would take
     let text = match std::str::from_utf8(bytes) {
         Ok(text) => text,
         Err(error) => {

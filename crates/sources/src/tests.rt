@@ -15,6 +15,7 @@ _ -> 0 _(_, _) -> 0 wanted 0
 }
 ";
 
+// What comes of a file's bytes. (The tests of `text` and `terms` have one each, of their own reader.)
 fn told(heap: Global, text: &[u8], bytes: usize, words: usize) -> Result<String, AllocError> {
     let file = String::from_str(heap, "least.job")?;
     match parse_job(heap, file, text, Limits { bytes, words }) {

@@ -26,6 +26,8 @@ pub struct Shape {
 // Rows 0 .. count - 1 are in use, each in several regions; a row never moves. `settled` of them have a rank.
 // The regions stay slices of words side by side: the memory is lent by a call that has no heap. That rows are chained by their
 // signatures (`Chains`) is no invariant: `lay_out` would have to zero the heads, which `reset` does at the start of a search.
+// That a row is below `most` stays a clause as well: rows come as plain numbers, out of these words. Rows and ranks are counted from
+// one there, and zero is none: a lent word has no room for an Option.
 #[derive(Drop)]
 pub struct Table<'a> {
     pub shape: Shape,

@@ -3,7 +3,8 @@ ghost use Rattle.std.specs.Prelude.{◌≡◌, length};
 
 use std::cmp::Ordering;
 
-// The words of a link: the mark, and the ranks of the two parts, counted from one; those of a leaf are zero.
+// The words of a link: the mark, and the ranks of the two parts, counted from one; those of a leaf are zero. (Words and no enum,
+// since links stand in lent words.)
 pub const LINK: usize = 3;
 
 pub const MARK: usize = 0;

@@ -2,7 +2,7 @@
 ghost use Rattle.std.specs.Prelude.{◌≡◌, ◌*◌, ◌<◌, ◌≤◌, length};
 ghost use Rattle.table.specs.Rows.{row, Written};
 
-// Row k of so many rows.
+// Row k of so many rows. (`rows` is for the contract: it says that row k lies within the region.)
 pub fn row_of(region: &[u32], rows: usize, width: usize, k: usize) -> &[u32]
     requires row { k < rows }
     requires room { rows * width ≤ length region.now }

@@ -22,18 +22,21 @@ impl Item {
             _ => None,
         }
     }
+}
 
-    pub fn words(self) -> [u32; 2]
-        ensures { result ≡ item_words self }
-    {
-        match self {
+impl From<Item> for [u32; 2] {
+    ghost from_gives = { λ item words. words ≡ item_words item };
+
+    // The two words of the item.
+    fn from(item: Item) -> [u32; 2] {
+        match item {
             Item::Leaf(mark) => [0, mark],
             Item::Node(mark) => [1, mark],
         }
     }
 }
 
-// Which part of an open node is being read or written.
+// Which part of an open node is being read or written. (The crate `rows` has such an enum of patterns; texts don't stand on it.)
 #[derive(Clone, Copy, Debug, PartialEq, Eq)]
 pub enum Part {
     Left,

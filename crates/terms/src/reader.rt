@@ -43,7 +43,7 @@ impl Reader<'_> {
             let most = self.words.most;
             return Err(self.cursor.fault(Mistake::TooLong { most }));
         }
-        self.words.extend(&item.words())?;
+        self.words.extend(&<[u32; 2]>::from(item))?;
         Ok(())
     }
 

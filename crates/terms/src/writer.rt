@@ -55,7 +55,7 @@ fn close(text: &mut Bounded<u8>, path: &mut Path) -> Result<(), Unwritten>
 }
 
 impl Writer {
-    // Adds the name of a mark.
+    // Adds the name of a mark. (`marks` are passed, not held: each method would have to promise that they stay.)
     fn mark(&mut self, heap: Global, marks: &Names, mark: u32) -> Result<(), Unwritten>
         ensures most { self.new.text.most ≡ self.old.text.most }
         ensures path { self.new.path.parts.items ≡ self.old.path.parts.items }

@@ -69,15 +69,10 @@ fn unwritten(rt: HostRuntime) -> Result<(), Fail> {
 }
 
 // `begin` so many times, a leaf, and `end` as often.
-fn comb(heap: Global, nodes: u32, begin: &str, end: &str) -> Result<String, Fail> {
-    let mut text = String::new(heap);
-    for _ in 0..nodes {
-        text.push_str(begin)?;
-    }
+fn comb(heap: Global, nodes: usize, begin: &str, end: &str) -> Result<String, Fail> {
+    let mut text = begin.repeat(heap, nodes)?;
     text.push_str("one")?;
-    for _ in 0..nodes {
-        text.push_str(end)?;
-    }
+    text.push_str(end.repeat(heap, nodes)?.as_str())?;
     Ok(text)
 }
 

@@ -142,18 +142,15 @@ fn patterns(rt: HostRuntime) -> Result<(), Fail> {
 }
 
 // A turn with a pattern of so many levels.
-fn nested(heap: Global, levels: u32) -> Result<String, Fail> {
+fn nested(heap: Global, levels: usize) -> Result<String, Fail> {
     let mut text = String::from_str(
         heap,
         "marks 1\nfrom { kinds 1\n_ -> 0 _(_, _) -> 0 wanted\n}\nturn { states 1\n_(_) -> ",
     )?;
-    for _ in 1..levels {
-        text.push_str("_(_,")?;
-    }
+    let nodes = levels.saturating_sub(1);
+    text.push_str("_(_,".repeat(heap, nodes)?.as_str())?;
     text.push('_')?;
-    for _ in 1..levels {
-        text.push(')')?;
-    }
+    text.push_str(")".repeat(heap, nodes)?.as_str())?;
     text.push_str("}")?;
     Ok(text)
 }

@@ -98,6 +98,7 @@ pub struct Token {
     pub len: usize,
 }
 
+// (`Display` says it the other way round. Two matches, since a list of pairs would be searched by hand.)
 fn symbol(byte: u8) -> Option<TokenKind> {
     match byte {
         b'_' => Some(TokenKind::Underscore),

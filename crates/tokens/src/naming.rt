@@ -7,7 +7,7 @@ use std::alloc::{AllocError, Global};
 // There are at most so many marks, kinds and states. (`rows` has limits of its own: it checks words, and a text has a place to tell.)
 pub const MOST: u32 = 64;
 
-// 1 to 64 things, counted from 0. They have names, or are written as numbers.
+// 1 to 64 things, counted from 0. They have names, or are written as numbers: then their count is all there is.
 #[derive(Drop)]
 pub struct Names {
     sort: Sort,

@@ -12,7 +12,7 @@ pub struct Frame {
     pub count: usize,
 }
 
-// So many frames, the last one on top.
+// So many frames, the last one on top. (Lent words and a depth, not a Vec: the calls have no heap.)
 #[derive(Drop)]
 pub struct Frames<'a> {
     pub words: &'a mut [u32],

@@ -27,7 +27,7 @@ impl Sink for Counter {
     }
 }
 
-// Writes words one behind the other into what it is lent, as long as there is room.
+// Writes words one behind the other into what it is lent, as long as there is room. (Not a Vec: the calls have no heap.)
 #[derive(Drop)]
 pub struct Writer<'a> {
     pub out: &'a mut [u32],

@@ -21,7 +21,8 @@ fn step(src: Source, here: Frame, frames: &Frames) -> Step
     step_at(src.job.words, here.at).unwrap()
 }
 
-// Into a part: the frame waits below, unless this was its last pattern.
+// Into a part: the frame waits below, unless this was its last pattern. (That the frames have room stays a clause: it is of the tree
+// and of the frames, and no type holds both.)
 fn descend(src: Source, here: Frame, state: u32, part: Part, frames: &mut Frames) -> Frame
     requires room { 3 * length src.tree.now ≤ length frames.old.words.now }
     requires ready { Ready src frames.old here }

@@ -2,7 +2,8 @@
 use crate::trees::Tree;
 use std::alloc::{AllocError, Global};
 
-// A bottom-up automaton: the kind of a leaf by its mark, that of a node by its mark and the kinds of its parts.
+// A bottom-up automaton: the kind of a leaf by its mark, that of a node by its mark and the kinds of its parts. (Not the tables of
+// `made_jobs`: a mistake there would stand in both programs.)
 #[derive(Drop)]
 pub struct Type {
     pub kinds: u32,

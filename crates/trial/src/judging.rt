@@ -42,7 +42,7 @@ impl Lent {
     }
 }
 
-// The buffers of calls of `judge` on one job.
+// The buffers of calls of `judge` on one job. (`Turning` is the like of `turn`, which is held to other things.)
 #[derive(Drop)]
 struct Judging<'a> {
     words: &'a [u32],
@@ -108,7 +108,8 @@ fn tree_breaks(heap: Global, job: &Job, words: &[u32]) -> anyhow::Result<bool> {
     Ok(rows.last().is_some_and(|kinds| breaks(job, kinds)))
 }
 
-// Holds the tree that `judge` gives to the least one that was found, if one was.
+// Holds the tree that `judge` gives to the least one that was found, if one was. (`heap`, `job` and `forest` go through three functions
+// as they are: a value of its own would have no other use.)
 fn check_tree(
     heap: Global,
     job: &Job,

@@ -26,7 +26,8 @@ fn pattern_kind(pattern: &Pattern, to: &Type, left: &[u32], right: &[u32]) -> Op
     }
 }
 
-// The kinds of a tree, by those of the trees that its parts are; none where a table lacks one, or memory ends.
+// The kinds of a tree, by those of the trees that its parts are. (An Option: that a kind is missing and that memory ends are one
+// failure here, which the callers name.)
 pub fn tree_kinds(heap: Global, job: &Job, tree: Tree, rows: &[Vec<u32>]) -> Option<Vec<u32>> {
     let (own, left, right): (u32, &[u32], &[u32]) = match tree {
         Tree::Leaf(mark) => (job.from.leaf(mark)?, &[], &[]),

@@ -5,7 +5,7 @@ use std::alloc::{AllocError, Global};
 pub const MARKS: u32 = 2;
 
 // The type that wants these kinds, where a leaf with a mark is of the kind `leaf(mark)`, and a node with a mark over parts of
-// two kinds of the kind `node(mark, left, right)`.
+// two kinds of the kind `node(mark, left, right)`. (But for the heap, the parameters are what a `Type` has.)
 pub fn type_by<L: Fn(u32) -> u32, N: Fn(u32, u32, u32) -> u32>(
     heap: Global,
     kinds: u32,

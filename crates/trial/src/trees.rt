@@ -10,7 +10,8 @@ pub enum Tree {
     Node(u32, usize, usize),
 }
 
-// The leaves and nodes of the tree that has these words, the whole tree last; none if no tree has them.
+// The leaves and nodes of the tree that has these words, the whole tree last; none if no tree has them. (No `?` then: no tree is an
+// answer, and the error is of memory.)
 pub fn read_tree(heap: Global, words: &[u32]) -> Result<Option<Vec<Tree>>, AllocError> {
     let mut trees = Vec::new(heap);
     let mut parts = Vec::new(heap);
@@ -28,7 +29,7 @@ pub fn read_tree(heap: Global, words: &[u32]) -> Result<Option<Vec<Tree>>, Alloc
         parts.push(trees.len())?;
         trees.push(tree)?;
     }
-    Ok(if parts.len() == 1 { Some(trees) } else { None })
+    Ok((parts.len() == 1).then_some(trees))
 }
 
 // All trees with so many marks, by their size and then in the order of trees.
@@ -39,6 +40,7 @@ pub struct Forest {
     // the words of the largest
     pub longest: usize,
     pub trees: Vec<Tree>,
+    // the words of each tree, by its place
     rows: Vec<Vec<u32>>,
     // where the trees with so many nodes begin, and where the last of them end
     starts: Vec<usize>,
@@ -118,9 +120,6 @@ impl Forest {
     }
 
     pub fn row(&self, tree: usize) -> &[u32] {
-        match self.rows.get(tree) {
-            Some(row) => row,
-            None => &[],
-        }
+        self.rows.get(tree).map_or(&[], |row| row.as_slice())
     }
 }

@@ -22,7 +22,7 @@ fn counted(classes: usize) -> u32 {
     u32::try_from(classes).unwrap_or(u32::MAX)
 }
 
-// The different rows of kinds among these.
+// The different rows of kinds among these. (Looked up before it is put in, here and in `add`, so that only a new row is copied.)
 fn different(heap: Global, rows: &[Vec<u32>]) -> Result<HashSet<Vec<u32>>, AllocError> {
     let mut met = HashSet::new(heap);
     for kinds in rows {
@@ -44,7 +44,8 @@ pub fn try_trees(heap: Global, job: &Job, rows: &[Vec<u32>]) -> anyhow::Result<T
     })
 }
 
-// The classes of trees of any size, one row of kinds for each: those of the leaves, and with any two those of the nodes.
+// The classes of trees of any size, one row of kinds for each: those of the leaves, and with any two those of the nodes. (By place,
+// and once more to look up: the order in which they come is what the loop goes by.)
 #[derive(Drop)]
 struct Closure {
     heap: Global,

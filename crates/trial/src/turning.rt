@@ -38,7 +38,8 @@ impl<'a> Filling<'a> {
         }
     }
 
-    // Puts out a pattern filled in at a tree, or so much of it that it is more than there is room for.
+    // Puts out a pattern filled in at a tree, or so much of it that it is more than there is room for. (An Option: that a pattern is
+    // missing and that memory ends are one failure here, which the caller names.)
     fn fill(self, pattern: &Pattern, tree: Tree, depth: u32, out: &mut Vec<u32>) -> Option<()> {
         if depth == 0 {
             return None;
@@ -88,21 +89,28 @@ impl<'a> Turning<'a> {
         })
     }
 
-    // One call with so many words of room and just the work words that are asked for; none where a buffer is too small.
-    fn call(&mut self, tree: &[u32], room: usize) -> Option<Done> {
+    // One call with so many words of room and just the work words that are asked for.
+    fn call(&mut self, tree: &[u32], room: usize) -> anyhow::Result<Done> {
         self.out.as_mut_slice().fill(UNTOUCHED);
         let need = work_words(self.words.len(), tree.len());
-        let out = self.out.as_mut_slice().get_mut(0..room)?;
-        let work = self.work.as_mut_slice().get_mut(0..need)?;
-        Some(turn(self.words, tree, out, work))
+        let out = self
+            .out
+            .as_mut_slice()
+            .get_mut(0..room)
+            .context(NOT_TURNED)?;
+        let work = self
+            .work
+            .as_mut_slice()
+            .get_mut(0..need)
+            .context(NOT_TURNED)?;
+        Ok(turn(self.words, tree, out, work))
     }
 
     // Whether out begins with the result, and goes on untouched.
     fn written(&self) -> bool {
-        match self.out.strip_prefix(self.mine.as_slice()) {
-            Some(rest) => untouched(rest),
-            None => false,
-        }
+        self.out
+            .strip_prefix(self.mine.as_slice())
+            .is_some_and(|rest| untouched(rest))
     }
 
     // Whether the answer at a tree that comes in, or doesn't, is what the recursion says.
@@ -116,10 +124,11 @@ impl<'a> Turning<'a> {
         }
     }
 
-    // Whether a room of one word less than the result is full; none where a buffer is too small.
-    fn refuses(&mut self, tree: &[u32], words: usize) -> Option<bool> {
-        let done = self.call(tree, words.checked_sub(1)?)?;
-        Some(done == Err(Unturned::Full) && untouched(&self.out))
+    // Whether a room of one word less than the result is full.
+    fn refuses(&mut self, tree: &[u32], words: usize) -> anyhow::Result<bool> {
+        let room = words.checked_sub(1).context(NOT_TURNED)?;
+        let done = self.call(tree, room)?;
+        Ok(done == Err(Unturned::Full) && untouched(&self.out))
     }
 }
 
@@ -129,7 +138,8 @@ fn work_words(job: usize, tree: usize) -> usize {
     usize::try_from(words).unwrap_or(usize::MAX)
 }
 
-// Holds `turn` to the recursion at each tree; and at some of those that have a result, with a room that is too short.
+// Holds `turn` to the recursion at each tree; and at some of those that have a result, with a room that is too short. (`words` and
+// `rows` are worked out of the job once, for both calls.)
 pub fn turn_trees(
     heap: Global,
     job: &Job,
@@ -149,12 +159,12 @@ pub fn turn_trees(
         if comes {
             filling.result(tree, &mut turning.mine).context(NOT_TURNED)?;
         }
-        let done = turning.call(row, ROOM).context(NOT_TURNED)?;
+        let done = turning.call(row, ROOM)?;
         let mut right = turning.is_right(done, comes);
         if let Ok(words) = done
             && tree % 16 == 3
         {
-            right = right && turning.refuses(row, words).context(NOT_TURNED)?;
+            right = right && turning.refuses(row, words)?;
             counts.short = counts.short.saturating_add(1);
         }
         ensure!(right, "turn answers otherwise at {row:?}");

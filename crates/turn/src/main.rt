@@ -51,6 +51,7 @@ fn turn_lines<R: Read + Drop>(rt: &HostRuntime, job: &Job, input: R) -> Result<E
     let mut buffers = Buffers::new(rt.alloc())?;
     let mut lines = Lines::new(rt.alloc(), input)?;
     let mut status = ExitCode::SUCCESS;
+    // by number, which a refusal tells; `Lines` is no iterator, since it reads into a buffer that is lent
     for number in 1..u64::MAX {
         let Some(line) = lines.next(&mut buffers.line)? else {
             break;
@@ -69,10 +70,8 @@ fn turn_lines<R: Read + Drop>(rt: &HostRuntime, job: &Job, input: R) -> Result<E
 }
 
 fn turn_file(rt: &HostRuntime, job: &Job, file: String) -> Result<ExitCode, Failure> {
-    match fs::open(rt, file.as_str()) {
-        Ok(input) => turn_lines(rt, job, input),
-        Err(error) => Err(Failure::Trees { file, error }),
-    }
+    let input = fs::open(rt, file.as_str()).map_err(|error| Failure::Trees { file, error })?;
+    turn_lines(rt, job, input)
 }
 
 fn run(rt: &HostRuntime) -> Result<ExitCode, Failure> {

@@ -37,6 +37,7 @@ pub enum Unturned {
     Small,
 }
 
+// By hand, so that the words are promised (`output`): of what a derive prints no contract says them.
 impl fmt::Display for Unturned {
     ghost use Rattle.std.specs.Prelude.{Some};
     ghost use Rattle.turned.specs.Words.{unturned_words};
@@ -72,6 +73,7 @@ pub enum Unjudged {
     Few,
 }
 
+// By hand, as those of `Unturned`.
 impl fmt::Display for Unjudged {
     ghost use Rattle.std.specs.Prelude.{Some};
     ghost use Rattle.turned.specs.Words.{unjudged_words};
@@ -131,11 +133,13 @@ fn put_out(src: Source, frames: &mut [u32], out: &mut [u32]) -> Option<usize>
         return None;
     }
     let mut writer = Writer { out, used: 0 };
+    // all of it, since the first walk counted it and it has room
     let _whole = walk(src, most, frames, &mut writer);
     Some(words)
 }
 
-// The tree turned, with the work words apart: an index of the job, ends and kinds of the tree's parts, and frames.
+// The tree turned, with the work words apart: an index of the job, ends and kinds of the tree's parts, and frames. (Each slice by
+// itself, since each has a length of its own to keep.)
 fn turn_with<'a>(
     words: &'a [u32],
     tree: &'a [u32],

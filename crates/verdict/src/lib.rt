@@ -29,6 +29,7 @@ pub enum Verdict {
     Breaks(usize),
 }
 
+// By hand, so that the words are promised (`output`): of what a derive prints no contract says them.
 impl fmt::Display for Verdict {
     ghost use Rattle.std.specs.Prelude.{Some};
     ghost use Rattle.verdict.specs.Words.{verdict_words};

@@ -16,7 +16,7 @@ pub enum Top {
     Node(u32, u32, u32),
 }
 
-// A stack of ranks in lent words, which goes from `top` to their end.
+// A stack of ranks in lent words, which goes from `top` to their end. (Not a Vec: the calls have no heap.)
 #[derive(Drop)]
 pub struct Ranks<'a> {
     pub words: &'a mut [u32],
