@@ -1,9 +1,11 @@
 -- How the value of a list of words changes with one word, how the words below a place make it up, and how the words from the last one
 -- down order it: each by induction on the list, with the weight of a place as a power of 2 ^ 32.
-use Rattle.std.proofs.Common.{◌≡◌, ℕ, zero, suc, ◌+◌, ◌*◌, ◌^◌, ◌<◌, List, [], ◌∷◌, ◌++◌, length, get_or, take, set, replicate, reverse, sym, refl, ap, ◌∙◌, subst, suc-le-suc, arith, pow-add, Ordering, Less, Equal, Greater}
-use Rattle.std.proofs.lemmas.List.{reverse-append, length-reverse}
+use Rattle.std.proofs.Common.{◌≡◌, ℕ, zero, suc, ◌+◌, ◌-◌, ◌*◌, ◌^◌, ◌<◌, ◌≤◌, List, [], ◌∷◌, ◌++◌, length, get_or, take, drop, set, replicate, reverse, sym, refl, ap, ◌∙◌, subst, suc-le-suc, arith, pow-add, Ordering, Less, Equal, Greater, ◌≢◌, ◌⊎◌, inl, inr}
+use Rattle.std.proofs.lemmas.List.{reverse-append, append_assoc, length-append, length-reverse}
 use Rattle.std.proofs.lemmas.Cmp.{ranked}
+use Rattle.std.specs.List.{push}
 use Rattle.std.specs.Ordering.{MatchOrdering, ordering_then, nat_cmp}
+use Rattle.std.specs.Cmp.{nat_cmp_is}
 use Rattle.std.specs.Cmp.Lexicographic.{slice_cmp}
 use mathlib.Core.List.{reverse-cons}
 use native.Mathlib.Nat.{pow-succ'}
@@ -35,7 +37,7 @@ pub value_small : (xs : List ℕ) (n v : ℕ) → xs ≡ replicate n 0 → 0 < n
 value_small xs zero v e h = absurd (omega arith)
 value_small xs (suc n) v e h = ap (λ (ys : List ℕ). value (set ys 0 v)) e ∙ omega (arith, value_zeros n)
 
--- The words below a place.
+-- The words below a place, and those from it on.
 
 value_take : (xs : List ℕ) (i : ℕ) → i < length xs → value (take (suc i) xs) ≡ value (take i xs) + get_or xs i 0 * weight i
 value_take [] i h = elim h [ ]
@@ -46,6 +48,17 @@ value_take (x ∷ xs) (suc i) (suc-le-suc h) =
 pub value_more : (xs : List ℕ) (i : ℕ) → i < length xs → value (take (i + 1) xs) ≡ value (take i xs) + get_or xs i 0 * weight i
 value_more xs i h = let e : i + 1 ≡ suc i = omega arith in ap (λ (n : ℕ). value (take n xs)) e ∙ value_take xs i h
 
+value_drop : (xs : List ℕ) (i : ℕ) → i < length xs → value (drop i xs) ≡ get_or xs i 0 + 2 ^ 32 * value (drop (suc i) xs)
+value_drop [] i h = elim h [ ]
+value_drop (x ∷ xs) zero h = refl
+value_drop (x ∷ xs) (suc i) (suc-le-suc h) = value_drop xs i h
+
+-- one place further down
+pub value_from : (xs : List ℕ) (i : ℕ) → 0 < i → i ≤ length xs → value (drop (i - 1) xs) ≡ get_or xs (i - 1) 0 + 2 ^ 32 * value (drop i xs)
+value_from xs i some h =
+    let e : suc (i - 1) ≡ i = omega arith in
+    value_drop xs (i - 1) (omega arith) ∙ ap (λ (n : ℕ). get_or xs (i - 1) 0 + 2 ^ 32 * value (drop n xs)) e
+
 -- A turn of the sum; `w` is the weight of the place.
 
 pub sum_turn : (w d s k low up v v' v₀ t c : ℕ)
@@ -53,10 +66,6 @@ pub sum_turn : (w d s k low up v v' v₀ t c : ℕ)
 sum_turn w d s k low up v v' v₀ t c e f g = omega (arith, ap (λ (n : ℕ). n * w) g)
 
 -- The words from the last one down.
-
--- one more word at the low end
-pub value_below : (xs : List ℕ) (x : ℕ) → value (reverse (xs ++ x ∷ [])) ≡ x + 2 ^ 32 * value (reverse xs)
-value_below xs x = ap value (reverse-append xs (x ∷ []))
 
 then_equal : (r : Ordering) → ordering_then r Equal ≡ r
 then_equal Less = refl
@@ -97,3 +106,33 @@ compares (x ∷ xs) (y ∷ ys) h f g =
     subst (λ (r : Ordering). MatchOrdering r (value (x ∷ xs) < value (y ∷ ys)) (value (x ∷ xs) ≡ value (y ∷ ys)) (value (y ∷ ys) < value (x ∷ xs))) (sym e)
     (low_word (slice_cmp nat_cmp (reverse xs) (reverse ys)) (nat_cmp x y) (value xs) (value ys) x y (f 0) (g 0)
     (compares xs ys (omega arith) (λ k. f (suc k)) (λ k. g (suc k))) (ranked x y (nat_cmp x y) refl))
+
+-- A turn of the comparison: `us` are the words gone by, the same in both.
+
+pub word_next : (xs ws us vs : List ℕ) (x : ℕ) → vs ≡ us ++ reverse ws → ws ≡ push xs x → vs ≡ us ++ x ∷ reverse xs
+word_next xs ws us vs x e f = e ∙ ap (λ (zs : List ℕ). us ++ zs) (ap reverse f ∙ reverse-append xs (x ∷ []))
+
+pub word_gone : (xs ws us vs : List ℕ) (x : ℕ) → vs ≡ us ++ reverse ws → ws ≡ push xs x → vs ≡ (us ++ x ∷ []) ++ reverse xs
+word_gone xs ws us vs x e f = word_next xs ws us vs x e f ∙ sym (append_assoc us (x ∷ []) (reverse xs))
+
+then_decided : (r o : Ordering) (x y : ℕ) → MatchOrdering r (x < y) (x ≡ y) (y < x) → x ≢ y → ordering_then r o ≡ r
+then_decided Less o x y m h = refl
+then_decided Equal o x y m h = absurd (h m)
+then_decided Greater o x y m h = refl
+
+-- the first words that differ decide
+pub first_decides : (us xs ys : List ℕ) (x y : ℕ) → x ≢ y → slice_cmp nat_cmp (us ++ x ∷ xs) (us ++ y ∷ ys) ≡ nat_cmp x y
+first_decides [] xs ys x y h = then_decided (nat_cmp x y) (slice_cmp nat_cmp xs ys) x y (ranked x y (nat_cmp x y) refl) h
+first_decides (u ∷ us) xs ys x y h =
+    ap (λ (r : Ordering). ordering_then r (slice_cmp nat_cmp (us ++ x ∷ xs) (us ++ y ∷ ys))) (sym (nat_cmp_is u u Equal refl)) ∙ first_decides us xs ys x y h
+
+gone_long : (xs us vs : List ℕ) → vs ≡ us ++ reverse xs → length vs ≡ length us + length xs
+gone_long xs us vs e = ap length e ∙ (length-append us (reverse xs) ∙ ap (λ (n : ℕ). length us + n) (length-reverse xs))
+
+-- where none differs, and one list is at its end, so is the other
+pub none_differs : (xs ys us vs ws : List ℕ) → length vs ≡ length ws → vs ≡ us ++ reverse xs → ws ≡ us ++ reverse ys → (length xs ≡ 0) ⊎ (length ys ≡ 0) → vs ≡ ws
+none_differs [] [] us vs ws h e f g = e ∙ sym f
+none_differs [] (y ∷ ys) us vs ws h e f g = absurd (omega (arith, gone_long [] us vs e, gone_long (y ∷ ys) us ws f))
+none_differs (x ∷ xs) [] us vs ws h e f g = absurd (omega (arith, gone_long (x ∷ xs) us vs e, gone_long [] us ws f))
+none_differs (x ∷ xs) (y ∷ ys) us vs ws h e f (inl g) = absurd (omega arith)
+none_differs (x ∷ xs) (y ∷ ys) us vs ws h e f (inr g) = absurd (omega arith)

@@ -15,7 +15,13 @@ pub fn compare(a: &[u32], b: &[u32]) -> Ordering
     requires { length a.now ≡ length b.now }
     ensures { MatchOrdering result (value a.now < value b.now) (value a.now ≡ value b.now) (value b.now < value a.now) }
 {
-    a.iter().rev().cmp(b.iter().rev())
+    // not by the iterators' `cmp`: that makes an `Ordering` of every two words, where most are the same
+    for (x, y) in a.iter().rev().zip(b.iter().rev()) {
+        if x != y {
+            return x.cmp(y);
+        }
+    }
+    Ordering::Equal
 }
 
 // Adds `from` and `carry` to the number in `into`, and returns what no longer fits there, as a multiple of the weight that the next word would have.
@@ -37,10 +43,11 @@ pub fn add(into: &mut [u32], from: &[u32], carry: u32) -> u32
 pub fn saturated(a: &[u32]) -> u64
     ensures { result ≡ min (value a.now) (2 ^ 64 - 1) }
 {
-    a.iter().rev().fold(
-        0,
-        |high: u64, word| high.saturating_mul(RADIX).saturating_add(u64::from(*word)),
-    )
+    let mut sum = 0u64;
+    for i in (0..a.len()).rev() {
+        sum = sum.saturating_mul(RADIX).saturating_add(u64::from(a[i]));
+    }
+    sum
 }
 
 // Writes the number `small`.
