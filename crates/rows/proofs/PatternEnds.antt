@@ -1,9 +1,9 @@
 -- Where a pattern ends, from its first step and the ends of its parts; and that none stands there, from what is amiss.
 -- A pattern that stands at a place begins with the step that stands there, so it is of that sort.
-use Rattle.std.proofs.Common.{◌≡◌, ℕ, ◌+◌, ◌-◌, ◌<◌, ◌≤◌, max, Bool, true, false, ◌&&◌, ltb, ◌⊎◌, List, [], ◌∷◌, ◌++◌, drop, Some, None, Option, sym, ◌∙◌, subst, inl, inr, append_assoc, arith}
+use Rattle.std.proofs.Common.{◌≡◌, ℕ, ◌+◌, ◌-◌, ◌<◌, ◌≤◌, max, Bool, true, false, ltb, ◌⊎◌, List, [], ◌∷◌, ◌++◌, drop, Some, None, Option, sym, ◌∙◌, subst, inl, inr, append_assoc, arith}
 use mathlib.Core.List.{tail-eq_of_cons-eq}
 use Rattle.std.specs.Bool.{then_some}
-use Rattle.std.proofs.lemmas.Bool.{true≢false, ltb-true, ltb-false, and_parts, and_cases}
+use Rattle.std.proofs.lemmas.Bool.{true≢false, ltb-true, ltb-false}
 use Rattle.model.specs.Turns.{Pattern, p_leaf, p_node, p_part, depth}
 use Rattle.model.specs.Rows.{side_word, pattern_row}
 use Rattle.model.proofs.Prefix.{patterns_apart, side_words}
@@ -62,22 +62,16 @@ module _ (s : List ℕ) (at deep : ℕ) (b : Bounds) where
   leaf_ends true a st d e = some_leaf a st d (ltb-true a b.marks (sym e))
   leaf_ends false a st d e = none_leaf a st (ltb-false a b.marks (sym e))
 
-  some_made : (q : ℕ) (d : Part) → StepAt s at (Some (Made q d)) → 1 ≤ deep → b.parts ≡ true → q < b.states → Ends pattern_row (PatternOk deep b) s at (Some (at + 3))
+  pub some_made : (q : ℕ) (d : Part) → StepAt s at (Some (Made q d)) → 1 ≤ deep → b.parts ≡ true → q < b.states → Ends pattern_row (PatternOk deep b) s at (Some (at + 3))
   some_made q d st f p h = (p_part q (side_of d), record { well_formed = (h, p); shallow = f }, st)
 
-  none_made : (q : ℕ) (d : Part) → StepAt s at (Some (Made q d)) → (b.parts ≡ false) ⊎ (b.states ≤ q) → Absent pattern_row (PatternOk deep b) s at
+  pub none_made : (q : ℕ) (d : Part) → StepAt s at (Some (Made q d)) → (b.parts ≡ false) ⊎ (b.states ≤ q) → Absent pattern_row (PatternOk deep b) s at
   none_made q d st h p rest ok e =
       let ok' = subst (PatternOk deep b) (tells s at (Made q d) p rest st e).0 ok in
       elim h [
         | inl n ↦ true≢false (sym ok'.well_formed.1 ∙ n)
         | inr n ↦ omega (arith, ok'.well_formed.0)
       ]
-
-  -- what a state makes of a part is a pattern exactly if there are parts, and the state is one
-  pub made_ends : (v : Bool) (q : ℕ) (d : Part) → StepAt s at (Some (Made q d)) → 1 ≤ deep → v ≡ (b.parts && ltb q b.states) → Ends pattern_row (PatternOk deep b) s at (then_some v (at + 3))
-  made_ends true q d st f e = let p = and_parts b.parts (ltb q b.states) (sym e) in some_made q d st f p.0 (ltb-true q b.states p.1)
-  made_ends false q d st f e =
-      none_made q d st (elim (and_cases b.parts (ltb q b.states) (sym e)) [ inl n ↦ inl n | inr n ↦ inr (ltb-false q b.states n) ])
 
   module _ (a : ℕ) (st : StepAt s at (Some (Node a))) where
     -- the patterns of a node that stands at the place

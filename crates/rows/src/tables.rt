@@ -1,6 +1,6 @@
 // The tables of a type.
-ghost use Rattle.std.specs.Prelude.{◌≡◌, ◌-◌, ◌*◌, ◌<◌, ◌≤◌, length, nat_lt};
-ghost use Rattle.std.specs.List.{list_all};
+ghost use Rattle.std.specs.Prelude.{◌≡◌, ◌-◌, ◌*◌, ◌<◌, ◌≤◌, length, nat_eq, nat_lt};
+ghost use Rattle.std.specs.List.{list_all, list_any};
 ghost use Rattle.model.specs.Types.{contains, kind_of_leaf, kind_of_node, node_place};
 ghost use Rattle.rows.specs.Standing.{Ends, slice};
 ghost use Rattle.rows.specs.Tables.{Table, TypeKnown, TypeRead};
@@ -19,11 +19,16 @@ pub struct TypePlaces {
     pub end: usize,
 }
 
-// Whether all these words are below a bound.
+// Whether all these words are below a bound. (A loop, since `all` took longer over long tables.)
 fn are_below(words: &[u32], bound: u32) -> bool
     ensures { result ≡ list_all (λ x. nat_lt x bound) words.now }
 {
-    words.iter().all(|word| *word < bound)
+    for word in words {
+        if *word >= bound {
+            return false;
+        }
+    }
+    true
 }
 
 // Where a table of so many words ends, all of them below a bound, if one stands at this place.
@@ -60,6 +65,13 @@ pub fn read_type(words: &[u32], at: usize, marks: u32) -> Option<TypePlaces>
     })
 }
 
+// Whether a kind is among these words.
+fn is_among(kind: u32, words: &[u32]) -> bool
+    ensures { result ≡ list_any (λ x. nat_eq x kind) words.now }
+{
+    words.iter().any(|word| *word == kind)
+}
+
 impl TypePlaces {
     // Whether a kind is wanted. (Apart from that of a known type: what it promises is of places alone.)
     pub fn wants(self, words: &[u32], kind: u32) -> bool
@@ -67,7 +79,7 @@ impl TypePlaces {
         requires within { self.end ≤ length words.now }
         ensures { result ≡ contains (slice self.wanted (self.end - self.wanted) words.now) kind }
     {
-        words[self.wanted..self.end].contains(&kind)
+        is_among(kind, &words[self.wanted..self.end])
     }
 }
 

@@ -1,8 +1,7 @@
-use Rattle.std.proofs.Common.{refl, sym, ap, ◌∙◌, ◌&&◌, Bool, ltb, arith}
-use Rattle.std.proofs.lemmas.Bool.{and_left}
-use Rattle.rows.proofs.PatternEnds.{as_step, none_deep, leaf_ends, made_ends, none_mark, none_first, node_ends}
+use Rattle.std.proofs.Common.{refl, inl, inr, arith}
+use Rattle.rows.proofs.PatternEnds.{as_step, none_deep, leaf_ends, some_made, none_made, none_mark, none_first, node_ends}
 use Rattle.rows.proofs.patterns.+pattern_end.Goals as goal
-use Rattle.rows.proofs.patterns.+pattern_end.Goals.{then-b, else-b}
+use Rattle.rows.proofs.patterns.+pattern_end.Goals.{else-b-via-then-b+else-q-b, else-b-via-else-b}
 
 pub returns-then-deep-eq0 : goal.returns-then-deep-eq0
 returns-then-deep-eq0 t c = none_deep c.args.words.now c.args.at c.args.deep c.args.b c.if-deep-eq0.true
@@ -10,14 +9,13 @@ returns-then-deep-eq0 t c = none_deep c.args.words.now c.args.at c.args.deep c.a
 pub returns-in-Leaf : goal.returns-in-Leaf
 returns-in-Leaf t c = rw c.then_some.ensures (leaf_ends c.args.words.now c.args.at c.args.deep c.args.b _ c.in-Leaf.a (as_step _ _ _ _ c.in-Leaf.is c.in_ok-a.ensures) (omega arith) refl)
 
-pub returns-after-b : goal.returns-after-b
-returns-after-b t c =
-    rw c.then_some-in-Made.ensures
-    (made_ends c.args.words.now c.args.at c.args.deep c.args.b c.if-b.then_some c.in-Made.q c.in-Made._part (as_step _ _ _ _ c.in-Made.is c.in_ok-a.ensures) (omega arith)
-    (elim c.if-b.branch [
-      | then-b w ↦ w.then_some-is ∙ sym (ap (λ (v : Bool). v && ltb c.in-Made.q c.args.b.states) w.if-b.true)
-      | else-b w ↦ w.then_some-is ∙ w.if-b.false ∙ sym (and_left c.args.b.parts _ w.if-b.false)
-    ]))
+pub returns-then-q-b : goal.returns-then-q-b
+returns-then-q-b t c = some_made c.args.words.now c.args.at c.args.deep c.args.b c.in-Made.q c.in-Made._part (as_step _ _ _ _ c.in-Made.is c.in_ok-a.ensures) (omega arith) c.if-b.true c.if-q-b.true
+
+pub returns-else-b : goal.returns-else-b
+returns-else-b t c =
+    none_made c.args.words.now c.args.at c.args.deep c.args.b c.in-Made.q c.in-Made._part (as_step _ _ _ _ c.in-Made.is c.in_ok-a.ensures)
+    (elim c.else-b.branch [ else-b-via-then-b+else-q-b w ↦ inr w.if-q-b.false | else-b-via-else-b w ↦ inl w.if-b.false ])
 
 pub returns-in_err-mid-in-Node : goal.returns-in_err-mid-in-Node
 returns-in_err-mid-in-Node t c =
