@@ -12,6 +12,27 @@ pub struct Frame {
     pub count: usize,
 }
 
+// The frame with number d.
+pub fn load(frames: &[u32], d: usize) -> Frame
+    requires { 6 * d + 5 < length frames.now }
+    ensures { result ≡ frame_at frames.now d }
+{
+    let node = number_at(frames, 3 * d);
+    let at = number_at(frames, 3 * d + 1);
+    let count = number_at(frames, 3 * d + 2);
+    Frame { node, at, count }
+}
+
+// Writes the frame with number d.
+pub fn save(frames: &mut [u32], d: usize, f: Frame)
+    requires { 6 * d + 5 < length frames.old }
+    ensures { Saved frames.old frames.new d f }
+{
+    set_number(frames, 3 * d, f.node);
+    set_number(frames, 3 * d + 1, f.at);
+    set_number(frames, 3 * d + 2, f.count);
+}
+
 // So many frames, the last one on top. (Lent words and a depth, not a Vec: the calls have no heap.)
 #[derive(Drop)]
 pub struct Frames<'a> {
@@ -25,10 +46,7 @@ impl<'a> Frames<'a> {
         requires { 6 * d + 5 < length self.now.words.now }
         ensures { result ≡ frame_at self.now.words.now d }
     {
-        let node = number_at(self.words, 3 * d);
-        let at = number_at(self.words, 3 * d + 1);
-        let count = number_at(self.words, 3 * d + 2);
-        Frame { node, at, count }
+        load(self.words, d)
     }
 
     // Writes the frame with number d.
@@ -37,10 +55,9 @@ impl<'a> Frames<'a> {
         ensures saved { Saved self.old.words.now self.new.words.now d f }
         ensures depth { self.new.depth ≡ self.old.depth }
         ensures long { length self.new.words.now ≡ length self.old.words.now }
+        ensures same_words { self.new.words.ghost_name ≡ self.old.words.ghost_name }
     {
-        set_number(self.words, 3 * d, f.node);
-        set_number(self.words, 3 * d + 1, f.at);
-        set_number(self.words, 3 * d + 2, f.count);
+        save(self.words, d, f);
     }
 
     // Puts a frame on top.
