@@ -1,28 +1,19 @@
 // The tokens of a text, read in order, and what is wrong where they are not as they are expected.
 ghost use Rattle.std.specs.Prelude.{◌≤◌, length};
 
-use crate::lexer::{Token, TokenKind, blank_len, first_token};
+use crate::lexer::{Lexer, TokenKind, shown};
 use crate::mistakes::{Fault, Mistake, Place};
 use crate::naming::Names;
 use crate::words::Word;
 use std::alloc::{AllocError, Global};
 use std::fmt::Display;
 
-// A message has at most so many bytes of a token.
-const MOST_SHOWN: usize = 80;
-
-// Stands at a token of a text, and goes on to the next.
+// Stands at a token of a text, and goes on to the next; says what is wrong where that is not as it is expected.
 #[derive(Clone, Copy)]
 pub struct Cursor<'t> {
     // What messages are made in.
     pub heap: Global,
-    text: &'t [u8],
-    // The text from the token on.
-    rest: &'t [u8],
-    token: Token,
-    starts_line: bool,
-    ghost of_text: { length rest.now ≤ length text.now },
-    ghost of_rest: { token.len ≤ length rest.now },
+    lexer: Lexer<'t>,
 }
 
 impl<'t> Cursor<'t> {
@@ -34,103 +25,85 @@ impl<'t> Cursor<'t> {
     pub fn new(heap: Global, text: &'t [u8]) -> Cursor<'t>
         ensures { ahead result ≤ length text.now }
     {
-        let rest = &text[blank_len(text)..];
         Cursor {
             heap,
-            text,
-            rest,
-            token: first_token(rest),
-            starts_line: true,
+            lexer: Lexer::new(text),
         }
     }
 
+    #[inline(always)]
     pub fn kind(&self) -> TokenKind
-        ensures { result ≡ self.now.token.kind }
+        ensures { result ≡ self.now.lexer.token.kind }
     {
-        self.token.kind
+        self.lexer.kind()
     }
 
     // Whether a line ends, or the text, between the token before this one and this one.
+    #[inline(always)]
     pub fn starts_line(&self) -> bool
-        ensures { result ≡ self.now.starts_line }
+        ensures { result ≡ self.now.lexer.starts_line }
     {
-        self.starts_line
+        self.lexer.starts_line()
     }
 
     // The bytes of the token.
+    #[inline(always)]
     pub fn lexeme(&self) -> &'t [u8]
-        ensures { length result.now ≡ self.now.token.len }
+        ensures { length result.now ≡ self.now.lexer.token.len }
     {
-        &self.rest[..self.token.len]
+        self.lexer.word()
     }
 
     // How many bytes of the text stand before the token.
+    #[inline(always)]
     pub fn offset(&self) -> usize
-        ensures { result ≤ length self.now.text.now }
+        ensures { result ≤ length self.now.lexer.text.now }
     {
-        self.text.len() - self.rest.len()
+        self.lexer.offset()
     }
 
     pub fn place(&self, offset: usize) -> Place
         ensures line { 1 ≤ result.line }
         ensures column { 1 ≤ result.column }
     {
-        Place::of(self.text, offset)
+        self.lexer.place(offset)
     }
 
     pub fn fault_at(&self, offset: usize, mistake: Mistake) -> Fault {
-        Fault::Wrong {
-            place: self.place(offset),
-            mistake,
-        }
+        self.lexer.fault_at(offset, mistake)
     }
 
     // The fault of a mistake at the token.
     pub fn fault(&self, mistake: Mistake) -> Fault {
-        self.fault_at(self.offset(), mistake)
+        self.lexer.fault(mistake)
     }
 
     // Bytes of the text as a message shows them: a long token is cut.
     pub fn shown(&self, bytes: &[u8]) -> Result<String, AllocError> {
-        String::from_utf8_lossy(self.heap, bytes.get(..MOST_SHOWN).unwrap_or(bytes))
+        shown(self.heap, bytes)
     }
 
     // The fault of a token that is not what is expected.
     pub fn unexpected(&self, expected: impl Display + Drop) -> Fault {
-        self.not_expected(expected)
-            .map_or_else(Fault::from, |mistake| self.fault(mistake))
-    }
-
-    fn not_expected(&self, expected: impl Display + Drop) -> Result<Mistake, AllocError> {
-        let found = self.shown(self.lexeme())?;
-        let expected = expected.to_string(self.heap)?;
-        Ok(match self.kind() {
-            TokenKind::Strange => Mistake::Character { found },
-            TokenKind::End => Mistake::Ended { expected },
-            _ => Mistake::Token { found, expected },
-        })
+        self.lexer.unexpected(self.heap, expected)
     }
 
     // Goes on to the next token. At the end of the text it stays, and there is none.
+    #[inline(always)]
     pub fn advance(&mut self) -> Result<(), Fault>
         ensures falls { OnOk result (ahead self.new < ahead self.old) }
     {
-        let len = self.token.len;
-        if len == 0 {
-            return Err(self.unexpected("more text"));
+        if self.lexer.advance() {
+            Ok(())
+        } else {
+            Err(self.unexpected("more text"))
         }
-        let after = &self.rest[len..];
-        let (blank, next) = after.split_at(blank_len(after));
-        self.starts_line = next.is_empty() || blank.contains(&b'\n');
-        self.token = first_token(next);
-        self.rest = next;
-        Ok(())
     }
 
     // Goes on past a token of this kind.
     pub fn expect(&mut self, kind: TokenKind) -> Result<(), Fault>
         ensures falls { OnOk result (ahead self.new < ahead self.old) }
-        ensures found { OnOk result (self.old.token.kind ≡ kind) }
+        ensures found { OnOk result (self.old.lexer.token.kind ≡ kind) }
     {
         if self.kind() != kind {
             return Err(self.unexpected(kind));
@@ -140,7 +113,7 @@ impl<'t> Cursor<'t> {
 
     // That nothing stands behind.
     pub fn expect_end(&self) -> Result<(), Fault>
-        ensures { OnOk result (self.now.token.kind ≡ End) }
+        ensures { OnOk result (self.now.lexer.token.kind ≡ End) }
     {
         match self.kind() {
             TokenKind::End => Ok(()),
@@ -153,24 +126,19 @@ impl<'t> Cursor<'t> {
     }
 
     // A name or a number.
+    #[inline(always)]
     pub fn word(&mut self, expected: impl Display + Drop) -> Result<Word<'t>, Fault>
         ensures falls { OnOk result (ahead self.new < ahead self.old) }
     {
-        let number = match self.kind() {
-            TokenKind::Name => None,
-            TokenKind::Number(number) => Some(number),
-            _ => return Err(self.unexpected(expected)),
-        };
-        let word = Word {
-            text: self.lexeme(),
-            number,
-            offset: self.offset(),
+        let Some(word) = Word::at(&self.lexer) else {
+            return Err(self.unexpected(expected));
         };
         self.advance()?;
         Ok(word)
     }
 
     // One of the things that the names stand for.
+    #[inline(always)]
     pub fn pick(&mut self, names: &Names) -> Result<u32, Fault>
         ensures { IfOk result (λ i. (i < names.now.count) × (ahead self.new < ahead self.old)) }
     {

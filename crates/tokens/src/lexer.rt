@@ -1,8 +1,10 @@
-// The token that a text begins with. Outside of comments all is ASCII.
+// The tokens of a text. A lexer stands at a token, and goes on to the next. Outside of comments all is ASCII.
 ghost use Rattle.std.specs.Prelude.{◌≤◌, length};
 
-use crate::mistakes::begins_character;
+use crate::mistakes::{Fault, Mistake, Place, begins_character};
+use std::alloc::{AllocError, Global};
 use std::fmt;
+use std::fmt::Display;
 
 // The words that are no names.
 #[derive(Clone, Copy, Debug, PartialEq, Eq)]
@@ -121,7 +123,7 @@ fn len_while<F: FnMut(&u8) -> bool>(bytes: &[u8], goes_on: F) -> usize
 }
 
 // How many bytes of white space and comments stand first.
-pub fn blank_len(bytes: &[u8]) -> usize
+fn blank_len(bytes: &[u8]) -> usize
     ensures { result ≤ length bytes.now }
 {
     let mut is_comment = false;
@@ -154,7 +156,7 @@ fn number(digits: &[u8]) -> u32 {
 }
 
 // The token that a text begins with.
-pub fn first_token(bytes: &[u8]) -> Token
+fn first_token(bytes: &[u8]) -> Token
     ensures { result.len ≤ length bytes.now }
 {
     let (kind, len) = match bytes {
@@ -179,4 +181,129 @@ pub fn first_token(bytes: &[u8]) -> Token
         }
     };
     Token { kind, len }
+}
+
+// A message has at most so many bytes of a token.
+const MOST_SHOWN: usize = 80;
+
+// A token as a message shows it: a long one is cut.
+pub fn shown(heap: Global, word: &[u8]) -> Result<String, AllocError> {
+    String::from_utf8_lossy(heap, word.get(..MOST_SHOWN).unwrap_or(word))
+}
+
+// Stands at a token of a text, and goes on to the next, with no message of its own: so it needs no memory.
+#[derive(Clone, Copy)]
+pub struct Lexer<'t> {
+    text: &'t [u8],
+    // The text from the token on.
+    rest: &'t [u8],
+    token: Token,
+    starts_line: bool,
+    ghost of_text: { length rest.now ≤ length text.now },
+    ghost of_rest: { token.len ≤ length rest.now },
+}
+
+impl<'t> Lexer<'t> {
+    ghost use Rattle.std.specs.Prelude.{◌≡◌, ◌<◌, T};
+    ghost use Rattle.tokens.specs.Progress.{unread};
+
+    // Stands at the first token of the text.
+    pub fn new(text: &'t [u8]) -> Lexer<'t>
+        ensures { unread result ≤ length text.now }
+    {
+        let rest = &text[blank_len(text)..];
+        Lexer {
+            text,
+            rest,
+            token: first_token(rest),
+            starts_line: true,
+        }
+    }
+
+    #[inline(always)]
+    pub fn kind(&self) -> TokenKind
+        ensures { result ≡ self.now.token.kind }
+    {
+        self.token.kind
+    }
+
+    // Whether a line ends, or the text, between the token before this one and this one.
+    #[inline(always)]
+    pub fn starts_line(&self) -> bool
+        ensures { result ≡ self.now.starts_line }
+    {
+        self.starts_line
+    }
+
+    // The bytes of the token.
+    #[inline(always)]
+    pub fn word(&self) -> &'t [u8]
+        ensures { length result.now ≡ self.now.token.len }
+    {
+        &self.rest[..self.token.len]
+    }
+
+    // How many bytes of the text stand before the token.
+    #[inline(always)]
+    pub fn offset(&self) -> usize
+        ensures { result ≤ length self.now.text.now }
+    {
+        self.text.len() - self.rest.len()
+    }
+
+    pub fn place(&self, offset: usize) -> Place
+        ensures line { 1 ≤ result.line }
+        ensures column { 1 ≤ result.column }
+    {
+        Place::of(self.text, offset)
+    }
+
+    pub fn fault_at(&self, offset: usize, mistake: Mistake) -> Fault {
+        Fault::Wrong {
+            place: self.place(offset),
+            mistake,
+        }
+    }
+
+    // The fault of a mistake at the token.
+    pub fn fault(&self, mistake: Mistake) -> Fault {
+        self.fault_at(self.offset(), mistake)
+    }
+
+    // The fault of a token that is not what is expected.
+    pub fn unexpected(&self, heap: Global, expected: impl Display + Drop) -> Fault {
+        self.not_expected(heap, expected)
+            .map_or_else(Fault::from, |mistake| self.fault(mistake))
+    }
+
+    fn not_expected(
+        &self,
+        heap: Global,
+        expected: impl Display + Drop,
+    ) -> Result<Mistake, AllocError> {
+        let found = shown(heap, self.word())?;
+        let expected = expected.to_string(heap)?;
+        Ok(match self.kind() {
+            TokenKind::Strange => Mistake::Character { found },
+            TokenKind::End => Mistake::Ended { expected },
+            _ => Mistake::Token { found, expected },
+        })
+    }
+
+    // Goes on to the next token. At the end of the text it stays, and answers false.
+    #[inline(never)]
+    pub fn advance(&mut self) -> bool
+        ensures { T result → unread self.new < unread self.old }
+    {
+        let len = self.token.len;
+        if len == 0 {
+            return false;
+        }
+        let after = &self.rest[len..];
+        let (blank, next) = after.split_at(blank_len(after));
+        self.starts_line = next.is_empty() || blank.contains(&b'\n');
+        self.token = first_token(next);
+        self.rest = next;
+        true
+    }
 }

@@ -8,7 +8,7 @@ mod naming;
 mod words;
 
 pub use cursor::Cursor;
-pub use lexer::{Keyword, TokenKind};
+pub use lexer::{Keyword, Lexer, TokenKind, shown};
 pub use mistakes::{Fault, Mistake, Place, Sort};
 pub use naming::{MOST, Names};
 pub use words::Word;

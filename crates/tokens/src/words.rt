@@ -1,7 +1,8 @@
 // Names and numbers, and what they stand for.
-ghost use Rattle.std.specs.Prelude.{◌<◌, IfOk};
+ghost use Rattle.std.specs.Prelude.{◌≡◌, ◌<◌, length, IfOk, IfSome};
 
 use crate::cursor::Cursor;
+use crate::lexer::{Lexer, TokenKind};
 use crate::mistakes::{Fault, Mistake};
 use crate::naming::Names;
 use std::alloc::AllocError;
@@ -12,6 +13,25 @@ pub struct Word<'t> {
     pub text: &'t [u8],
     pub number: Option<u32>,
     pub offset: usize,
+}
+
+impl<'t> Word<'t> {
+    // The token, if it is a name or a number.
+    #[inline(always)]
+    pub fn at(lexer: &Lexer<'t>) -> Option<Word<'t>>
+        ensures { IfSome result (λ word. length word.text.now ≡ lexer.now.token.len) }
+    {
+        let number = match lexer.kind() {
+            TokenKind::Name => None,
+            TokenKind::Number(number) => Some(number),
+            _ => return None,
+        };
+        Some(Word {
+            text: lexer.word(),
+            number,
+            offset: lexer.offset(),
+        })
+    }
 }
 
 impl Word<'_> {
