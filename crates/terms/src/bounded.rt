@@ -11,12 +11,14 @@ pub struct Bounded<T> {
 }
 
 impl<T: Copy> Bounded<T> {
+    #[inline(always)]
     pub fn has_room(&self, more: usize) -> bool
         ensures { IsTrue result ↔ (vec_len self.now.items + more ≤ self.now.most) }
     {
         more <= self.most - self.items.len()
     }
 
+    #[inline(always)]
     pub fn extend(&mut self, more: &[T]) -> Result<(), AllocError>
         requires room { vec_len self.old.items + length more.now ≤ self.old.most }
         ensures after { OnOk result (self.new.items.items ≡ self.old.items.items ++ more.now) }

@@ -13,6 +13,7 @@ pub enum Item {
 
 impl Item {
     // The item that words begin with, and the words behind it.
+    #[inline(always)]
     pub fn split_first(words: &[u32]) -> Option<(Item, &[u32])>
         ensures { IfSome result (λ first. words.now ≡ item_words first.0 ++ first.1.now) }
     {
@@ -28,6 +29,7 @@ impl From<Item> for [u32; 2] {
     ghost from_gives = { λ item words. words ≡ item_words item };
 
     // The two words of the item.
+    #[inline(always)]
     fn from(item: Item) -> [u32; 2] {
         match item {
             Item::Leaf(mark) => [0, mark],
@@ -58,6 +60,7 @@ impl Path {
         }
     }
 
+    #[inline(always)]
     pub fn is_empty(&self) -> bool
         ensures { IsTrue result ↔ (self.now.parts.items ≡ []) }
     {
@@ -65,6 +68,7 @@ impl Path {
     }
 
     // Into the left part of a node.
+    #[inline(always)]
     pub fn enter(&mut self) -> Result<(), AllocError>
         ensures some { OnOk result (0 < length self.new.parts.items) }
         ensures one_more { OnOk result (to_come self.new.parts.items ≡ to_come self.old.parts.items + 1) }
@@ -74,6 +78,7 @@ impl Path {
     }
 
     // Behind a part: from a left part to the right one, and from a right part out of the node. Says which part it was.
+    #[inline(always)]
     pub fn leave(&mut self) -> Result<Option<Part>, AllocError>
         ensures { IfOk result (λ part. Leaves self.old.parts.items part self.new.parts.items) }
     {

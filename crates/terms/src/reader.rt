@@ -33,6 +33,7 @@ fn close(cursor: &mut Cursor<'_>, path: &mut Path) -> Result<(), Fault>
 
 impl Reader<'_> {
     // Writes a leaf, or a node without its parts.
+    #[inline(always)]
     fn put(&mut self, item: Item) -> Result<(), Fault>
         ensures most { self.new.words.most ≡ self.old.words.most }
         ensures cursor { self.new.cursor ≡ self.old.cursor }
@@ -48,6 +49,7 @@ impl Reader<'_> {
     }
 
     // Reads up to the next part, or to the end of the tree.
+    #[inline(always)]
     fn next(&mut self, marks: &Names) -> Result<(), Fault>
         requires begins { Begins marks.now.count (to_come self.old.path.parts.items + 1) self.old.words.items.items }
         ensures falls { OnOk result (ahead self.new.cursor < ahead self.old.cursor) }

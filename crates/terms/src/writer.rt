@@ -1,6 +1,6 @@
 // Writes a tree as a term.
-ghost use Rattle.std.specs.Prelude.{◌≡◌, ◌<◌, ◌≤◌, [], vec_len, OnOk};
-ghost use Rattle.terms.specs.Beginnings.{Closes, GoesOn, IsTree};
+ghost use Rattle.std.specs.Prelude.{◌≡◌, ◌<◌, ◌≤◌, ◌++◌, [], vec_len, OnOk, IfOk};
+ghost use Rattle.terms.specs.Beginnings.{Closes, GoesOn, IsTree, item_words};
 
 use crate::bounded::Bounded;
 use crate::parts::{Item, Part, Path};
@@ -28,6 +28,7 @@ struct Writer {
 }
 
 impl Bounded<u8> {
+    #[inline(always)]
     fn put(&mut self, bytes: &[u8]) -> Result<(), Unwritten>
         ensures most { self.new.most ≡ self.old.most }
     {
@@ -41,6 +42,7 @@ impl Bounded<u8> {
 
 // Behind a whole part: closes the nodes that it ends, up to the next part. (Not one function with the reader's: that one's
 // promise is of the text that it reads, and a closure would have to carry it.)
+#[inline(always)]
 fn close(text: &mut Bounded<u8>, path: &mut Path) -> Result<(), Unwritten>
     ensures most { text.new.most ≡ text.old.most }
     ensures closes { OnOk result (Closes path.old.parts.items path.new.parts.items) }
@@ -56,6 +58,7 @@ fn close(text: &mut Bounded<u8>, path: &mut Path) -> Result<(), Unwritten>
 
 impl Writer {
     // Adds the name of a mark. (`marks` are passed, not held: each method would have to promise that they stay.)
+    #[inline(always)]
     fn mark(&mut self, heap: Global, marks: &Names, mark: u32) -> Result<(), Unwritten>
         ensures most { self.new.text.most ≡ self.old.text.most }
         ensures path { self.new.path.parts.items ≡ self.old.path.parts.items }
@@ -69,6 +72,7 @@ impl Writer {
     }
 
     // Writes up to the next part, or to the end of the tree.
+    #[inline(always)]
     fn item(&mut self, heap: Global, marks: &Names, item: Item) -> Result<(), Unwritten>
         ensures most { self.new.text.most ≡ self.old.text.most }
         ensures row { OnOk result (GoesOn marks.now.count item self.old.path.parts.items self.new.path.parts.items) }
@@ -87,16 +91,38 @@ impl Writer {
         }
     }
 
+    // The item that words begin with, and the words behind it. Words that begin with none are refused behind the name of their mark,
+    // if they have one: so a name that has no room is told first.
+    #[inline(always)]
+    fn next_item<'w>(
+        &mut self,
+        heap: Global,
+        marks: &Names,
+        words: &'w [u32],
+    ) -> Result<(Item, &'w [u32]), Unwritten>
+        ensures most { self.new.text.most ≡ self.old.text.most }
+        ensures path { self.new.path.parts.items ≡ self.old.path.parts.items }
+        ensures first { IfOk result (λ first. words.now ≡ item_words first.0 ++ first.1.now) }
+    {
+        if let Some(first) = Item::split_first(words) {
+            return Ok(first);
+        }
+        if let [_, mark, ..] = words {
+            self.mark(heap, marks, *mark)?;
+        }
+        Err(Unwritten::NoTree)
+    }
+
     // Writes a tree whose row the words are.
     fn write(&mut self, heap: Global, marks: &Names, words: &[u32]) -> Result<(), Unwritten>
         requires { self.old.path.parts.items ≡ [] }
         ensures most { self.new.text.most ≡ self.old.text.most }
         ensures tree { OnOk result (IsTree marks.now.count words.now) }
     {
-        let (first, mut rest) = Item::split_first(words).ok_or(Unwritten::NoTree)?;
+        let (first, mut rest) = self.next_item(heap, marks, words)?;
         self.item(heap, marks, first)?;
         while !self.path.is_empty() {
-            let (item, behind) = Item::split_first(rest).ok_or(Unwritten::NoTree)?;
+            let (item, behind) = self.next_item(heap, marks, rest)?;
             self.item(heap, marks, item)?;
             rest = behind;
         }
