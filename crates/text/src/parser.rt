@@ -34,11 +34,11 @@ impl<'t> Parser<'t> {
         }
     }
 
-    // Writes words, if there may be so many more.
+    // Writes words, of which it was asked before whether there may be so many.
+    #[inline(always)]
     pub fn put(&mut self, words: &[u32]) -> Result<(), Fault>
         ensures { OnOk result (self.new.words.items ≡ self.old.words.items ++ words.now) }
     {
-        self.reserve(words.len())?;
         self.words.extend_from_slice(words)?;
         Ok(())
     }

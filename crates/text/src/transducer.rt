@@ -242,8 +242,14 @@ impl<'t> Parser<'t> {
         self.cursor.advance()
     }
 
-    // Writes a pattern for a case with the mark.
+    // Writes a pattern for a case with the mark, if there may be so many words more. (Asked once, not at each piece: a rule may stand for
+    // millions of words.)
     fn pattern_row(&mut self, pattern: &[Piece], mark: u32) -> Result<(), Fault> {
+        let parts = pattern
+            .iter()
+            .filter(|piece| matches!(piece, Piece::Part { .. }))
+            .count();
+        self.reserve(pattern.len().saturating_mul(2).saturating_add(parts))?;
         for piece in pattern {
             match piece {
                 Piece::Leaf(own) => self.put(&[0, own.unwrap_or(mark)])?,
