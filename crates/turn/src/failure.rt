@@ -15,6 +15,9 @@ pub enum Failure {
     Usage,
     #[error("turn: not enough memory")]
     Memory(#[from(alloc)] AllocError),
+    // There is none for the block of input: all that a reader that is being made says wrong.
+    #[error("turn: not enough memory")]
+    Block(io::Error),
     #[error(transparent)]
     Job(JobError),
     // The file of the trees cannot be opened.

@@ -49,7 +49,7 @@ fn put(rt: &HostRuntime, line: &[u8]) -> io::Result<()> {
 // Answers each line before it reads the next: with its result, or with `-` and why there is none. Succeeds if all had one.
 fn turn_lines<R: Read + Drop>(rt: &HostRuntime, job: &Job, input: R) -> Result<ExitCode, Failure> {
     let mut buffers = Buffers::new(rt.alloc())?;
-    let mut lines = Lines::new(rt.alloc(), input)?;
+    let mut lines = Lines::new(rt.alloc(), input).map_err(Failure::Block)?;
     let mut status = ExitCode::SUCCESS;
     // by number, which a refusal tells; `Lines` is no iterator, since it reads into a buffer that is lent
     for number in 1..u64::MAX {
