@@ -1,10 +1,17 @@
 // The call `turn`, on one case of each sort.
 use crate::jobs::{LARGEST, SAMPLE, job_of, right_comb};
 use made_jobs::{LEFT_TWICE, SWAP, TWO_STATES, TurnTables};
-use turned::{turn, turn_words};
+use turned::turn;
 
 // A longer room is not shown.
 const SHORT: usize = 20;
+
+// The work words that `turn` asks for, by a formula of its own: the call compares with `turn_words`, so of a number taken from there
+// one word less is refused whatever the number is.
+fn work_words(job: &[u32], tree: &[u32]) -> usize {
+    let words = 4096 + 4 * job.len() as u128 + 8 * tree.len() as u128;
+    usize::try_from(words).unwrap_or(usize::MAX)
+}
 
 // A call of `turn`: its job, its tree, and so many words of room, filled with nines. (`judged_cases` has one of `judge`, which takes
 // and answers other things.)
@@ -28,7 +35,7 @@ impl<'a> Case<'a> {
     // The same, with so many work words less.
     fn show_lacking(self, rt: &HostRuntime, name: &str, lacks: usize) -> anyhow::Result<()> {
         let Case { job, tree, room } = self;
-        let work = usize::try_from(turn_words(job.len(), tree.len())).unwrap_or(usize::MAX);
+        let work = work_words(job, tree);
         let mut out = vec![in rt.alloc(); 9u32; room]?;
         let mut lent = vec![in rt.alloc(); 0u32; work.saturating_sub(lacks)]?;
         match turn(job, tree, &mut out, &mut lent) {

@@ -1,7 +1,7 @@
 // The call `judge`, on the worked cases and at the limits of what is lent.
 use made_jobs::{JobTables, LEFT_TWICE, SWAP, TWO_STATES, TurnTables, TypeTables};
 use std::alloc::{AllocError, Global};
-use turned::{Judged, Unjudged, Verdict, judge, judge_words};
+use turned::{Judged, Unjudged, Verdict, judge};
 
 // A room of so many words is filled with nines before a call.
 const ROOM: usize = 400;
@@ -11,6 +11,14 @@ const MOST: u32 = 200;
 
 // So many words of a tree are shown.
 const SHORT: usize = 12;
+
+// The work words that `judge` asks for, by a formula of its own: the call compares with `judge_words`, so of a number taken from there
+// one word less is refused whatever the number is.
+fn work_words(job: &[u32], most: u32) -> usize {
+    let n = u128::from(most);
+    let words = 4096 + 4 * job.len() as u128 + (n + 1) * (256 + n);
+    usize::try_from(words).unwrap_or(usize::MAX)
+}
 
 // A call of `judge`: its job, how many classes are allowed, so many words of room, and so many work words.
 #[derive(Clone, Copy)]
@@ -24,7 +32,7 @@ struct Case<'a> {
 impl<'a> Case<'a> {
     // With room enough and just the work words that are asked for.
     fn new(job: &'a [u32], most: u32) -> Case<'a> {
-        let work = usize::try_from(judge_words(job.len(), most)).unwrap_or(usize::MAX);
+        let work = work_words(job, most);
         Case {
             job,
             most,

@@ -105,7 +105,7 @@ fn tree_breaks(heap: Global, job: &Job, words: &[u32]) -> anyhow::Result<bool> {
         return Ok(false);
     };
     let rows = kinds_of(heap, job, &trees)?;
-    Ok(rows.last().is_some_and(|kinds| breaks(job, kinds)))
+    Ok(rows.iter().last().is_some_and(|kinds| breaks(job, kinds)))
 }
 
 // Holds the tree that `judge` gives to the least one that was found, if one was. (`heap`, `job` and `forest` go through three functions

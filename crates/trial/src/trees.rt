@@ -35,13 +35,13 @@ pub fn read_tree(heap: Global, words: &[u32]) -> Result<Option<Vec<Tree>>, Alloc
 // All trees with so many marks, by their size and then in the order of trees.
 #[derive(Drop)]
 pub struct Forest {
-    heap: Global,
     marks: u32,
     // the words of the largest
     pub longest: usize,
     pub trees: Vec<Tree>,
-    // the words of each tree, by its place
-    rows: Vec<Vec<u32>>,
+    // the words of the trees, one row behind the other, and where each row begins
+    words: Vec<u32>,
+    rows: Vec<usize>,
     // where the trees with so many nodes begin, and where the last of them end
     starts: Vec<usize>,
 }
@@ -50,10 +50,10 @@ impl Forest {
     // All trees of at most so many nodes, and one leaf more.
     pub fn new(heap: Global, marks: u32, nodes: usize) -> Result<Forest, AllocError> {
         let mut forest = Forest {
-            heap,
             marks,
             longest: nodes.saturating_mul(4).saturating_add(2),
             trees: Vec::new(heap),
+            words: Vec::new(heap),
             rows: Vec::new(heap),
             starts: Vec::new(heap),
         };
@@ -105,21 +105,37 @@ impl Forest {
     }
 
     fn push(&mut self, tree: Tree) -> Result<(), AllocError> {
-        let mut row = Vec::new(self.heap);
+        self.trees.push(tree)?;
+        self.rows.push(self.words.len())?;
         match tree {
-            Tree::Leaf(mark) => row.extend_from_slice(&[0, mark])?,
+            Tree::Leaf(mark) => self.words.extend_from_slice(&[0, mark])?,
             Tree::Node(mark, left, right) => {
-                row.extend_from_slice(&[1, mark])?;
-                row.extend_from_slice(self.row(left))?;
-                row.extend_from_slice(self.row(right))?;
+                self.words.extend_from_slice(&[1, mark])?;
+                self.repeat(left)?;
+                self.repeat(right)?;
             }
         }
-        self.trees.push(tree)?;
-        self.rows.push(row)?;
         Ok(())
     }
 
+    // The row of a tree once more. (Word by word: it is copied out of the vector that it goes into.)
+    fn repeat(&mut self, tree: usize) -> Result<(), AllocError> {
+        for at in self.span(tree) {
+            let word = self.words.get(at).copied().unwrap_or(0);
+            self.words.push(word)?;
+        }
+        Ok(())
+    }
+
+    // Where the row of a tree stands.
+    fn span(&self, tree: usize) -> Range<usize> {
+        let start = self.rows.get(tree).copied();
+        let end = self.rows.get(tree.saturating_add(1)).copied();
+        let all = self.words.len();
+        start.unwrap_or(all)..end.unwrap_or(all)
+    }
+
     pub fn row(&self, tree: usize) -> &[u32] {
-        self.rows.get(tree).map_or(&[], |row| row.as_slice())
+        self.words.get(self.span(tree)).unwrap_or(&[])
     }
 }

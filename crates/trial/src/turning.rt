@@ -1,7 +1,7 @@
 // Turning by plain recursion, and the call `turn` held to it.
 use crate::counts::Counts;
 use crate::jobs::{Job, Pattern, Side};
-use crate::kinds::comes;
+use crate::kinds::{KindRows, comes};
 use crate::trees::{Forest, Tree};
 use anyhow::{Context, ensure};
 use std::alloc::{AllocError, Global};
@@ -145,7 +145,7 @@ pub fn turn_trees(
     job: &Job,
     words: &[u32],
     forest: &Forest,
-    rows: &[Vec<u32>],
+    rows: &KindRows,
     counts: &mut Counts,
 ) -> anyhow::Result<()> {
     let filling = Filling {
